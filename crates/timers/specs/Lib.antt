@@ -1,0 +1,3 @@
+pub mod Timers
+pub mod Calls
+pub mod Laws

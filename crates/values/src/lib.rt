@@ -1,0 +1,45 @@
+// The values that every layer above shares: connection IDs, reset tokens, addresses, moments and spans, the limits, the refusal numbers, and the answers
+// that hold one plain value. Each value has its form test and its equality test; docs/RULES.md, "Values", says what the forms are.
+mod address;
+mod answers;
+mod calls;
+mod cid;
+pub mod limits;
+pub mod refusals;
+mod time;
+mod token;
+mod used;
+mod zeros;
+
+pub use address::Address;
+pub use address::FourTuple;
+pub use address::address_eq;
+pub use address::address_formed;
+pub use address::pair_eq;
+pub use address::pair_formed;
+pub use answers::Counted;
+pub use answers::Done;
+pub use answers::Flagged;
+pub use answers::Numbered;
+pub use answers::Timed;
+pub use calls::wire_code;
+pub use cid::ConnectionId;
+pub use cid::cid_eq;
+pub use cid::cid_formed;
+pub use cid::cid_is_empty;
+pub use cid::cid_new;
+pub use time::Deadline;
+pub use time::Moment;
+pub use time::Moved;
+pub use time::Span;
+pub use time::deadline_formed;
+pub use time::moment_formed;
+pub use time::moment_minus;
+pub use time::moment_plus;
+pub use token::Token;
+pub use token::token_eq;
+pub use token::token_formed;
+pub use used::UsedSeq;
+pub use zeros::same16;
+pub use zeros::same20;
+pub use zeros::zero16;

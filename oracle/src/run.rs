@@ -1,0 +1,182 @@
+//! The three states, the answer of a record, and the subcommands over files.
+
+use std::error::Error;
+use std::fs::File;
+use std::io::{self, BufRead, BufReader, BufWriter, Read, Write};
+
+use crate::branches::Tally;
+use crate::connection::cid::ConnectionIdMgr;
+use crate::connection::path::PathMap;
+use crate::connection::{ids, paths, timers};
+use crate::generate::Generator;
+use crate::record::{self, Area, Call, Field, Outcome, Record, RECORD};
+use crate::{digest, ConnectionId};
+
+type Done = Result<bool, Box<dyn Error>>;
+
+/// The states that a trace works on, and the ways taken so far.
+pub struct World {
+    pub timers: timers::Timers,
+    pub ids: ConnectionIdMgr,
+    pub paths: PathMap,
+    pub tally: Tally,
+}
+
+impl World {
+    pub fn new() -> Self {
+        World { timers: Default::default(), ids: Default::default(), paths: PathMap::zero(), tally: Tally::new() }
+    }
+
+    pub fn apply(&mut self, call: &Call, record: &Record) -> Outcome {
+        match call.area {
+            Area::Values => values(call, record, &mut self.tally),
+            Area::Timers => timers::answer(&mut self.timers, call, record, &mut self.tally),
+            Area::Ids => ids::answer(&mut self.ids, call, record, &mut self.tally),
+            Area::Paths => paths::answer(&mut self.paths, call, record, &mut self.tally),
+        }
+    }
+
+    pub fn digest(&self, area: Area) -> u64 {
+        match area {
+            Area::Values => 0,
+            Area::Timers => digest::of_timers(&self.timers),
+            Area::Ids => digest::of_ids(&self.ids),
+            Area::Paths => digest::of_paths(&self.paths),
+        }
+    }
+
+    fn line(&mut self, record: &Record) -> String {
+        match record::find(record.call) {
+            None => format!("{:02x} unknown call", record.call),
+            Some(call) => {
+                let outcome = self.apply(call, record);
+                outcome.line(call.number, self.digest(call.area))
+            }
+        }
+    }
+}
+
+fn values(call: &Call, record: &Record, tally: &mut Tally) -> Outcome {
+    use crate::error::Error;
+    let n = record.n[0];
+    if call.name == "cid_new" {
+        let length = n.min(record::AREA as u64) as usize;
+        tally.hit(call.number, match n {
+            0 => "empty",
+            1..=19 => "below-20",
+            20 => "exactly-20",
+            21..=54 => "cut",
+            _ => "above-the-area",
+        });
+        return Outcome::accepted(call, vec![Field::of_id(&ConnectionId::new(&record.area[..length]))]);
+    }
+    let rust = match n {
+        2 => Some(Error::InternalError),
+        3 => Some(Error::ConnectionIdLimitError),
+        4 => Some(Error::ProtocolViolation),
+        5 => Some(Error::Done),
+        _ => None,
+    };
+    tally.hit(call.number, &if n <= 8 { format!("number-{n}") } else { "other".to_string() });
+    // The other numbers are the port's own: document 01 gives each the wire code 1.
+    Outcome::accepted(call, vec![Field::Number(rust.map_or(1, |error| error.to_wire()))])
+}
+
+pub fn generate(areas: &str, calls: &str, seed: &str) -> Done {
+    let named = |name: &str| Area::ALL.into_iter().find(|area| area.name() == name).ok_or(format!("no area `{name}`"));
+    let areas: Vec<Area> = areas.split(',').map(named).collect::<Result<_, _>>()?;
+    let (calls, seed): (u64, u64) = (calls.parse()?, seed.parse()?);
+    let mut generator = Generator::new(areas, seed);
+    let mut out = BufWriter::new(io::stdout().lock());
+    for _ in 0..calls {
+        out.write_all(&generator.next().to_bytes())?;
+    }
+    out.flush()?;
+    Ok(true)
+}
+
+pub fn answer(branches: Option<&str>) -> Done {
+    let mut input = BufReader::new(io::stdin().lock());
+    let mut out = BufWriter::new(io::stdout().lock());
+    let mut world = World::new();
+    let mut count = 0u64;
+    let last = loop {
+        match read_record(&mut input)? {
+            Read96::End => break "end ",
+            Read96::Truncated => break "truncated",
+            Read96::Whole(bytes) => match Record::from_bytes(&bytes) {
+                None => break "malformed",
+                Some(record) => writeln!(out, "{}", world.line(&record))?,
+            },
+        }
+        count += 1;
+    };
+    match last {
+        "end " => writeln!(out, "end {count:016x}")?,
+        why => writeln!(out, "record {count:016x} {why}")?,
+    }
+    out.flush()?;
+    if let Some(file) = branches {
+        std::fs::write(file, world.tally.report())?;
+    }
+    for disagreement in &world.tally.disagreements {
+        eprintln!("oracle: {disagreement}");
+    }
+    Ok(world.tally.disagreements.is_empty())
+}
+
+enum Read96 {
+    Whole([u8; RECORD]),
+    Truncated,
+    End,
+}
+
+fn read_record(input: &mut impl Read) -> io::Result<Read96> {
+    let mut bytes = [0; RECORD];
+    let mut filled = 0;
+    while filled < RECORD {
+        match input.read(&mut bytes[filled..])? {
+            0 if filled == 0 => return Ok(Read96::End),
+            0 => return Ok(Read96::Truncated),
+            more => filled += more,
+        }
+    }
+    Ok(Read96::Whole(bytes))
+}
+
+pub fn compare(trace: &str, a: &str, b: &str) -> Done {
+    let open = |file: &str| File::open(file).map(BufReader::new).map_err(|why| format!("{file}: {why}"));
+    let mut records = open(trace)?;
+    let (mut lines_a, mut lines_b) = (open(a)?.split(b'\n'), open(b)?.split(b'\n'));
+    let (mut compared, mut differing) = (0u64, 0u64);
+    let mut first = None;
+    loop {
+        let (line_a, line_b) = (lines_a.next().transpose()?, lines_b.next().transpose()?);
+        if line_a.is_none() && line_b.is_none() {
+            break;
+        }
+        let record = read_record(&mut records)?;
+        let is_end = |line: &Option<Vec<u8>>| line.as_ref().is_none_or(|line| line.starts_with(b"end "));
+        if !(is_end(&line_a) && is_end(&line_b)) {
+            compared += 1;
+        }
+        if line_a != line_b {
+            differing += 1;
+            first.get_or_insert((compared, record, line_a, line_b));
+        }
+    }
+    println!("calls compared {compared}");
+    println!("differing lines {differing}");
+    if let Some((place, record, line_a, line_b)) = first {
+        let text = |line: Option<Vec<u8>>| line.map_or("(no line)".into(), |line| String::from_utf8_lossy(&line).into_owned());
+        let described = match record {
+            Read96::Whole(bytes) => Record::from_bytes(&bytes).map_or("a malformed record".into(), |record| record.describe()),
+            Read96::Truncated => "a truncated record".into(),
+            Read96::End => "the trace's end".into(),
+        };
+        println!("first difference, line {place}: {described}");
+        println!("A: {}", text(line_a));
+        println!("B: {}", text(line_b));
+    }
+    Ok(differing == 0)
+}
