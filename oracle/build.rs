@@ -36,7 +36,10 @@ fn main() {
         let file = sources.join(name);
         println!("cargo:rerun-if-changed={}", file.display());
         if sha256(&file) != sum {
-            fail(&format!("{} is not the file of tquic 1.6.0 that SUMS names; set TQUIC_SRC to the right folder", file.display()));
+            fail(&format!(
+                "{} is not the file of tquic 1.6.0 that SUMS names; set TQUIC_SRC to the right folder",
+                file.display()
+            ));
         }
         if name != "lib.rs" {
             fs::write(out.join(file.file_name().unwrap()), fs::read(&file).unwrap()).unwrap();

@@ -12,7 +12,8 @@ const STATE: &str = "malformed-state";
 const ID: &str = "id-too-long id-tail-not-zero";
 const TOKEN: &str = "absent-token-not-zero";
 const NUMBER: &str = "absent-number-not-zero";
-const PAIR: &str = "local-kind local-v4-ip local-v4-flow local-v4-scope remote-kind remote-v4-ip remote-v4-flow remote-v4-scope";
+const PAIR: &str =
+    "local-kind local-v4-ip local-v4-flow local-v4-scope remote-kind remote-v4-ip remote-v4-flow remote-v4-scope";
 const UNKNOWN: &str = "malformed-state unknown-id";
 const QUEUE: &str = "on-no-slot on-queued on-queued-again off-none off-one off-several";
 
@@ -100,7 +101,7 @@ fn ways(area: Area, name: &str) -> Vec<&'static str> {
         (Area::Paths, "on_path_chal_timeout") => &[
             "moment-too-far", STATE,
             "nothing-due some-lost some-failed lost-and-failed",
-            "deadline-at-now due-behind-front validated-left failed-left several-lost-on-a-path lost-32-failed",
+            "deadline-at-now due-behind-front validated-left several-lost-on-a-path lost-32-failed",
         ],
         (Area::Paths, "min_path_chal_timer") => &[STATE, "none one-path several-paths front-not-least"],
         (Area::Paths, "inc_anti_ampl_limit") => &[STATE, "client unknown-id verified added product-stops sum-stops"],
@@ -140,7 +141,12 @@ impl Tally {
         let states = [(IDS_STATE, Area::Ids, "well_formed"), (PATHS_STATE, Area::Paths, "well_formed")];
         let counts: Vec<Counts> = calls
             .chain(states)
-            .map(|(call, area, name)| Counts { call, area, name, ways: ways(area, name).into_iter().map(|way| (way, 0)).collect() })
+            .map(|(call, area, name)| Counts {
+                call,
+                area,
+                name,
+                ways: ways(area, name).into_iter().map(|way| (way, 0)).collect(),
+            })
             .collect();
         let mut by_call = [usize::MAX; 256];
         for (at, entry) in counts.iter().enumerate() {

@@ -55,6 +55,22 @@ pub mod cid {
             }
         }
 
+        /// For the test that asks what the Rust would leave.
+        #[cfg(test)]
+        pub fn copy(&self) -> Self {
+            let table = |from: &ConnectionIdDeque| ConnectionIdDeque {
+                queue: from.queue.iter().map(|item| ConnectionIdItem { ..*item }).collect(),
+                capacity: from.capacity,
+            };
+            ConnectionIdMgr {
+                dcids: table(&self.dcids),
+                scids: table(&self.scids),
+                scids_to_advertise: self.scids_to_advertise.clone(),
+                dcids_to_retire: self.dcids_to_retire.clone(),
+                ..*self
+            }
+        }
+
         pub fn write_next(&mut self, next: u64) {
             self.next_scid_seq = next;
         }

@@ -1,5 +1,5 @@
 //! The seeded generator. It keeps the Rust's states beside the trace that it writes, so that arguments can be chosen that
-//! exist, repeat, or lie on either side of a limit. Each area goes through sessions: a fresh, then calls in one mood.
+//! exist, repeat, or lie on either side of a limit. Each area goes through rounds: a fresh, then calls in one mood.
 
 mod ids;
 mod paths;
@@ -8,7 +8,7 @@ use std::collections::VecDeque;
 
 use crate::connection::timers;
 use crate::moment;
-use crate::record::{self, Arg, Area, Call, Record, AREA, CALLS, MAX_MOMENT, MAX_SEQUENCE};
+use crate::record::{self, Area, Arg, Call, Record, AREA, CALLS, MAX_MOMENT, MAX_SEQUENCE};
 use crate::run::World;
 
 /// Sequences and sizes on the edges of the rules.
@@ -66,9 +66,9 @@ impl Rng {
     }
 }
 
-/// What an area is at: calls left in its session, records planned, and its mood.
+/// What an area is at: calls left in its round, records planned, and its mood.
 #[derive(Default)]
-struct Session {
+struct Round {
     left: u64,
     mood: usize,
     plan: VecDeque<Record>,
@@ -78,18 +78,18 @@ pub struct Generator {
     rng: Rng,
     areas: Vec<Area>,
     world: World,
-    ids: Session,
-    paths: Session,
+    ids: Round,
+    paths: Round,
     /// The moment that path calls are at; it moves on by small steps.
     now: u64,
-    /// How many pairs of addresses and challenge data a session of paths draws from.
+    /// How many pairs of addresses and challenge data a round of paths draws from.
     pairs: u64,
     data: u64,
 }
 
 impl Generator {
     pub fn new(areas: Vec<Area>, seed: u64) -> Self {
-        let (ids, paths) = (Session::default(), Session::default());
+        let (ids, paths) = (Round::default(), Round::default());
         Generator { rng: Rng(seed), areas, world: World::new(), ids, paths, now: 0, pairs: 1, data: 1 }
     }
 
@@ -105,7 +105,13 @@ impl Generator {
             Area::Paths => self.paths(),
         };
         let call = record::find(record.call).expect("a call");
-        if self.rng.percent(3) {
+        // Few calls of these are made, and each has many arguments.
+        let often = match call.name {
+            "fresh" => 20,
+            "mark_ping" | "get_path_id" => 10,
+            _ => 3,
+        };
+        if self.rng.percent(often) {
             self.damage(call, &mut record);
         }
         self.world.apply(call, &record);
@@ -170,7 +176,8 @@ impl Generator {
 
     /// Puts one argument out of its form, if the call has one that can be.
     fn damage(&mut self, call: &Call, record: &mut Record) {
-        let breakable = |arg: &&Arg| !matches!(arg, Arg::Number(..) | Arg::FlagC(_) | Arg::FlagD(_) | Arg::Slice(_) | Arg::Token);
+        let breakable =
+            |arg: &&Arg| !matches!(arg, Arg::Number(..) | Arg::FlagC(_) | Arg::FlagD(_) | Arg::Slice(_) | Arg::Token);
         let args: Vec<Arg> = call.args.iter().filter(breakable).copied().collect();
         let Some(arg) = self.rng.some(&args) else { return };
         let byte = 1 + self.rng.below(255) as u8;
@@ -219,4 +226,31 @@ impl Generator {
 
 fn area_calls(area: Area) -> impl Iterator<Item = &'static Call> + Clone {
     CALLS.iter().filter(move |call| call.area == area && !call.write)
+}
+
+#[cfg(test)]
+mod tests {
+    use super::*;
+
+    #[test]
+    fn a_seed_gives_one_trace_of_whole_records() {
+        let (mut one, mut two) = (Generator::new(Area::ALL.to_vec(), 7), Generator::new(Area::ALL.to_vec(), 7));
+        for _ in 0..20_000 {
+            let record = one.next();
+            assert_eq!(record, two.next());
+            assert_eq!(Record::from_bytes(&record.to_bytes()), Some(record));
+        }
+    }
+
+    #[test]
+    fn every_way_through_every_call_is_taken() {
+        for area in Area::ALL {
+            let mut generator = Generator::new(vec![area], 1);
+            (0..300_000).for_each(|_| drop(generator.next()));
+            let report = generator.world.tally.report();
+            let missed: Vec<&str> = report.lines().filter(|line| line.ends_with(" 0")).collect();
+            assert!(missed.is_empty(), "{missed:?}");
+            assert_eq!(generator.world.tally.disagreements, Vec::<String>::new());
+        }
+    }
 }

@@ -44,7 +44,11 @@ pub fn answer(ids: &mut ConnectionIdMgr, call: &Call, record: &Record, tally: &m
         Err(error) => Outcome::refused(call, refusal_of(&error)),
     };
     if outcome.refusal != refusal {
-        tally.disagreements.push(format!("{}: {way}: {refusal} expected, the Rust gives {}", record.describe(), outcome.refusal));
+        tally.disagreements.push(format!(
+            "{}: {way}: {refusal} expected, the Rust gives {}",
+            record.describe(),
+            outcome.refusal
+        ));
     }
     outcome
 }
@@ -56,9 +60,11 @@ pub fn malformed(ids: &IdsPeek) -> Option<&'static str> {
     }
     let rising = ids.scids.iter().zip(ids.scids.iter().skip(1)).all(|(low, high)| low.seq < high.seq);
     let tokens = ids.scids.iter().chain(ids.dcids).all(|item| item.seq == 0 || item.reset_token.is_some());
-    let distinct = ids.dcids.iter().enumerate().all(|(i, item)| {
-        ids.dcids.iter().take(i).all(|other| other.seq != item.seq && other.cid != item.cid)
-    });
+    let distinct = ids
+        .dcids
+        .iter()
+        .enumerate()
+        .all(|(i, item)| ids.dcids.iter().take(i).all(|other| other.seq != item.seq && other.cid != item.cid));
     assert!(rising && tokens && distinct);
     assert!(ids.dcid_limit <= 16 && ids.dcid_capacity == 2 * ids.dcid_limit - 1);
     assert!((2..=16).contains(&ids.scid_limit) && ids.scid_capacity % 2 == 1);
@@ -386,5 +392,33 @@ fn retire_scid(ids: &IdsPeek, record: &Record) -> (&'static str, u8) {
         (None, _) => ("none-left", 2),
         (Some(least), Some(_)) => (if least == ids.own_rpt { "kept-path" } else { "raised-path" }, 0),
         (Some(least), None) => (if least == ids.own_rpt { "kept-no-path" } else { "raised-no-path" }, 0),
+    }
+}
+
+#[cfg(test)]
+mod tests {
+    use super::*;
+    use crate::generate::Generator;
+    use crate::record::{find, Area};
+    use crate::run::World;
+
+    /// 6 is answered exactly if the Rust, had it been called, would have left a queue too long.
+    #[test]
+    fn no_slot_where_the_rust_would_leave_too_many() {
+        let (mut generator, mut world, mut refused) = (Generator::new(vec![Area::Ids], 3), World::new(), 0);
+        for _ in 0..100_000 {
+            let record = generator.next();
+            let Some(call) = find(record.call) else { continue };
+            let mut copy = world.ids.copy();
+            let refusal = world.apply(call, &record).refusal;
+            if call.write || matches!(refusal, 1 | 7) {
+                continue;
+            }
+            let _ = perform(&mut copy, call, &record);
+            let left = copy.peek();
+            assert_eq!(refusal == 6, left.advertise.len() > QUEUE || left.retire.len() > QUEUE, "{}", record.describe());
+            refused += (refusal == 6) as u64;
+        }
+        assert!(refused > 100);
     }
 }

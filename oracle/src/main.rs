@@ -13,7 +13,7 @@ mod run;
 mod shims;
 mod trials;
 
-use std::sync::atomic::{AtomicU64, Ordering};
+use std::cell::Cell;
 use std::sync::OnceLock;
 
 // What the Rust's files expect at the crate's root.
@@ -30,8 +30,10 @@ include!(concat!(env!("OUT_DIR"), "/lib_parts.rs"));
 #[allow(non_camel_case_types)]
 pub type ssize_t = isize;
 
-/// The moment that the clock shows, in microseconds.
-static NOW: AtomicU64 = AtomicU64::new(0);
+thread_local! {
+    /// The moment that the clock shows, in microseconds.
+    static NOW: Cell<u64> = const { Cell::new(0) };
+}
 
 #[repr(C)]
 pub struct Timespec {
@@ -45,21 +47,23 @@ pub struct Timespec {
 /// `time` is a valid place, as the C function asks.
 #[no_mangle]
 pub unsafe extern "C" fn clock_gettime(_clock: i32, time: *mut Timespec) -> i32 {
-    let now = NOW.load(Ordering::Relaxed);
+    let now = NOW.get();
     let (seconds, nanoseconds) = ((now / 1_000_000) as i64, (now % 1_000_000 * 1000) as i64);
     time.write(Timespec { seconds, nanoseconds });
     0
 }
 
 pub fn set_now(moment: u64) {
-    NOW.store(moment, Ordering::Relaxed);
+    NOW.set(moment);
 }
 
 fn origin() -> Instant {
     static ORIGIN: OnceLock<Instant> = OnceLock::new();
     *ORIGIN.get_or_init(|| {
-        set_now(0);
-        Instant::now()
+        let now = NOW.replace(0);
+        let origin = Instant::now();
+        NOW.set(now);
+        origin
     })
 }
 
@@ -91,8 +95,6 @@ const USAGE: &str = "usage: oracle gen AREAS CALLS SEED > trace      AREAS: a co
 fn main() {
     let arguments: Vec<String> = std::env::args().skip(1).collect();
     let words: Vec<&str> = arguments.iter().map(String::as_str).collect();
-    // The clock starts at the origin before anything else asks for it.
-    origin();
     let done = match words[..] {
         ["gen", areas, calls, seed] => run::generate(areas, calls, seed),
         ["answer"] => run::answer(None),
@@ -108,5 +110,22 @@ fn main() {
             eprintln!("oracle: {why}");
             std::process::exit(2)
         }
+    }
+}
+
+#[cfg(test)]
+mod tests {
+    use super::*;
+
+    #[test]
+    fn the_clock_shows_every_moment() {
+        for now in [0, 1, 999_999, 1_000_000, record::MAX_MOMENT] {
+            set_now(now);
+            assert_eq!(Instant::now(), instant(now));
+            assert_eq!(moment(Instant::now()), now);
+        }
+        set_now(4);
+        assert_eq!(Instant::now().duration_since(instant(7)), Duration::ZERO);
+        assert_eq!(Instant::now().duration_since(instant(1)), Duration::from_micros(3));
     }
 }

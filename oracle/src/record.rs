@@ -74,8 +74,8 @@ const fn write(number: u8, area: Area, name: &'static str, args: &'static [Arg])
     Call { number, area, name, args, answer: "", write: true }
 }
 
-use Arg::*;
 use Area::{Ids, Paths, Timers, Values};
+use Arg::*;
 
 const ID: Arg = Number("id", 0);
 const SEQUENCE: Arg = Number("sequence", 0);
@@ -286,7 +286,11 @@ impl Record {
 }
 
 fn absent(present: bool) -> &'static str {
-    if present { "" } else { "(absent)" }
+    if present {
+        ""
+    } else {
+        "(absent)"
+    }
 }
 
 fn malformed_address(address: &[u8; 27], [kind, ip, flow, scope]: [&'static str; 4]) -> Option<&'static str> {

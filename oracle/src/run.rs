@@ -61,13 +61,16 @@ fn values(call: &Call, record: &Record, tally: &mut Tally) -> Outcome {
     let n = record.n[0];
     if call.name == "cid_new" {
         let length = n.min(record::AREA as u64) as usize;
-        tally.hit(call.number, match n {
-            0 => "empty",
-            1..=19 => "below-20",
-            20 => "exactly-20",
-            21..=54 => "cut",
-            _ => "above-the-area",
-        });
+        tally.hit(
+            call.number,
+            match n {
+                0 => "empty",
+                1..=19 => "below-20",
+                20 => "exactly-20",
+                21..=54 => "cut",
+                _ => "above-the-area",
+            },
+        );
         return Outcome::accepted(call, vec![Field::of_id(&ConnectionId::new(&record.area[..length]))]);
     }
     let rust = match n {
@@ -147,28 +150,33 @@ fn read_record(input: &mut impl Read) -> io::Result<Read96> {
 pub fn compare(trace: &str, a: &str, b: &str) -> Done {
     let open = |file: &str| File::open(file).map(BufReader::new).map_err(|why| format!("{file}: {why}"));
     let mut records = open(trace)?;
-    let (mut lines_a, mut lines_b) = (open(a)?.split(b'\n'), open(b)?.split(b'\n'));
-    let (mut compared, mut differing) = (0u64, 0u64);
+    let (mut answers_a, mut answers_b) = (open(a)?, open(b)?);
+    let (mut compared, mut differing, mut place) = (0u64, 0u64, 0u64);
     let mut first = None;
     loop {
-        let (line_a, line_b) = (lines_a.next().transpose()?, lines_b.next().transpose()?);
-        if line_a.is_none() && line_b.is_none() {
+        // With their line feeds, so that a missing one is a difference.
+        let (mut line_a, mut line_b) = (Vec::new(), Vec::new());
+        if answers_a.read_until(b'\n', &mut line_a)? + answers_b.read_until(b'\n', &mut line_b)? == 0 {
             break;
         }
+        place += 1;
         let record = read_record(&mut records)?;
-        let is_end = |line: &Option<Vec<u8>>| line.as_ref().is_none_or(|line| line.starts_with(b"end "));
+        let is_end = |line: &[u8]| line.is_empty() || line.starts_with(b"end ");
         if !(is_end(&line_a) && is_end(&line_b)) {
             compared += 1;
         }
         if line_a != line_b {
             differing += 1;
-            first.get_or_insert((compared, record, line_a, line_b));
+            first.get_or_insert((place, record, line_a, line_b));
         }
     }
     println!("calls compared {compared}");
     println!("differing lines {differing}");
     if let Some((place, record, line_a, line_b)) = first {
-        let text = |line: Option<Vec<u8>>| line.map_or("(no line)".into(), |line| String::from_utf8_lossy(&line).into_owned());
+        let text = |line: Vec<u8>| match line.is_empty() {
+            true => "(no line)".into(),
+            false => String::from_utf8_lossy(&line).trim_end_matches('\n').to_string(),
+        };
         let described = match record {
             Read96::Whole(bytes) => Record::from_bytes(&bytes).map_or("a malformed record".into(), |record| record.describe()),
             Read96::Truncated => "a truncated record".into(),

@@ -3,7 +3,7 @@
 use super::*;
 use crate::connection::ids::{malformed, QUEUE};
 
-// The moods: what a session is about.
+// The moods: what a round is about.
 const MIXED: usize = 0;
 const SOURCE: usize = 1;
 const DESTINATION: usize = 2;
@@ -28,7 +28,7 @@ fn boosts(mood: usize) -> &'static [(&'static str, u64)] {
 impl Generator {
     pub(super) fn ids(&mut self) -> Record {
         if self.ids.left == 0 {
-            return self.ids_session();
+            return self.ids_round();
         }
         self.ids.left -= 1;
         if let Some(record) = self.ids.plan.pop_front() {
@@ -51,10 +51,20 @@ impl Generator {
         record
     }
 
-    /// A fresh, and what the session's mood needs at its start.
-    fn ids_session(&mut self) -> Record {
+    /// A fresh, and what the round's mood needs at its start.
+    fn ids_round(&mut self) -> Record {
         self.ids.mood = self.rng.pick(&[
-            MIXED, SOURCE, SOURCE, DESTINATION, DESTINATION, RETIRE_QUEUE, RETIRE_QUEUE, ADVERTISE_QUEUE, LAST_SEQUENCES, BROKEN, ZERO_LENGTH,
+            MIXED,
+            SOURCE,
+            SOURCE,
+            DESTINATION,
+            DESTINATION,
+            RETIRE_QUEUE,
+            RETIRE_QUEUE,
+            ADVERTISE_QUEUE,
+            LAST_SEQUENCES,
+            BROKEN,
+            ZERO_LENGTH,
         ]);
         let mood = self.ids.mood;
         self.ids.left = 50 + self.rng.below(350);
@@ -131,10 +141,10 @@ impl Generator {
         self.ids.plan.push_back(record);
     }
 
-    /// Writes that make the state well formed again, or a new session.
+    /// Writes that make the state well formed again, or a new round.
     fn repair(&mut self) -> Record {
         if self.world.ids.peek().dcid_limit == 0 || self.rng.percent(20) {
-            return self.ids_session();
+            return self.ids_round();
         }
         let last = self.world.ids.peek().scids.back().map_or(0, |item| item.seq);
         self.plan_ids("write_own_rpt", |record| record.n[0] = 0);
@@ -162,10 +172,14 @@ impl Generator {
     fn fill_ids(&mut self, call: &Call, record: &mut Record) {
         for arg in call.args {
             match *arg {
-                Arg::Number("sequence", i) => record.n[i] = self.sequence(call.name.contains("scid") || call.name.contains("frame")),
+                Arg::Number("sequence", i) => {
+                    record.n[i] = self.sequence(call.name.contains("scid") || call.name.contains("frame"))
+                }
                 Arg::Number("path", i) => record.n[i] = self.path_number(),
                 Arg::Number("limit", i) => record.n[i] = self.source_limit(),
-                Arg::Number("place", i) => record.n[i] = if self.rng.percent(95) { self.rng.below(34) } else { self.rng.pick(&EDGES) },
+                Arg::Number("place", i) => {
+                    record.n[i] = if self.rng.percent(95) { self.rng.below(34) } else { self.rng.pick(&EDGES) }
+                }
                 Arg::Number(_, i) => record.n[i] = self.rng.pick(&EDGES),
                 Arg::DestinationLimit(i) => record.n[i] = 1 + self.rng.below(16),
                 Arg::Maybe(_, i) => {
@@ -196,11 +210,19 @@ impl Generator {
     }
 
     fn path_number(&mut self) -> u64 {
-        if self.rng.percent(95) { self.rng.below(8) } else { self.rng.next() }
+        if self.rng.percent(95) {
+            self.rng.below(8)
+        } else {
+            self.rng.next()
+        }
     }
 
     fn source_limit(&mut self) -> u64 {
-        if self.rng.percent(95) { self.rng.below(18) } else { self.rng.pick(&[u64::MAX, 1 << 63, 1 << 32, 18]) }
+        if self.rng.percent(95) {
+            self.rng.below(18)
+        } else {
+            self.rng.pick(&[u64::MAX, 1 << 63, 1 << 32, 18])
+        }
     }
 
     /// A sequence that the source or the destination side knows, or is about to, or an edge.
@@ -293,12 +315,12 @@ impl Generator {
         match self.rng.below(100) {
             // A new sequence; sometimes it retires up to an old one, or everything.
             0..=44 => {
-                let seq = top.saturating_add(1 + self.rng.below(2));
+                let seq = top.saturating_add(1 + self.rng.below(4));
                 let low = seqs.iter().copied().min().unwrap_or(0);
                 record.n[0] = seq;
                 record.n[1] = match (raising, self.rng.some(&seqs)) {
                     (false, _) => self.rng.pick(&[0, peer, peer / 2]),
-                    (true, Some(old)) => self.rng.pick(&[old, old.saturating_add(1).min(seq), low, low, seq]),
+                    (true, Some(old)) => self.rng.pick(&[old, old.saturating_add(1).min(seq), low, low, low, seq]),
                     (true, None) => self.rng.pick(&[seq, peer.saturating_add(1).min(seq)]),
                 };
                 self.put_pool_id(record, 1000 + seq % 1000, false);

@@ -1,0 +1,72 @@
+// A record of 96 bytes, as docs/TRACES.md lays it out.
+
+pub struct Record {
+    pub area: [u8; 54],
+    pub n0: u64,
+    pub n1: u64,
+    pub n2: u64,
+    pub n3: u64,
+    pub call: u8,
+    pub a: bool,
+    pub b: bool,
+    pub c: bool,
+    pub d: bool,
+    pub formed: bool,
+}
+
+fn byte(s: &[u8], at: usize) -> u8 {
+    if at < s.len() {
+        return s[at];
+    }
+    0
+}
+
+fn wide(b: u8) -> u64 {
+    b as u64
+}
+
+// The eight bytes from `at` on, big-endian.
+fn word(s: &[u8], at: u8) -> u64 {
+    let mut x: u64 = 0;
+    let from = at as usize;
+    let mut i: usize = 0;
+    while i < 8 {
+        x = (x << 8) | wide(byte(s, from + i));
+        i += 1;
+    }
+    x
+}
+
+fn area(s: &[u8]) -> [u8; 54] {
+    let mut r = [0u8; 54];
+    let mut i: usize = 0;
+    while i < 54 {
+        r[i] = byte(s, 40 + i);
+        i += 1;
+    }
+    r
+}
+
+// The flags are 0 or 1, and the five spare bytes are zero.
+fn formed(s: &[u8]) -> bool {
+    let flags = byte(s, 1) | byte(s, 2) | byte(s, 3) | byte(s, 4);
+    let spare = byte(s, 5) | byte(s, 6) | byte(s, 7) | byte(s, 94) | byte(s, 95);
+    (flags < 2) & (spare == 0)
+}
+
+pub fn read(s: &[u8]) -> Record {
+    let area = area(s);
+    Record {
+        area: area,
+        n0: word(s, 8),
+        n1: word(s, 16),
+        n2: word(s, 24),
+        n3: word(s, 32),
+        call: byte(s, 0),
+        a: byte(s, 1) == 1,
+        b: byte(s, 2) == 1,
+        c: byte(s, 3) == 1,
+        d: byte(s, 4) == 1,
+        formed: formed(s),
+    }
+}
