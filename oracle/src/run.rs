@@ -81,7 +81,7 @@ fn values(call: &Call, record: &Record, tally: &mut Tally) -> Outcome {
         _ => None,
     };
     tally.hit(call.number, &if n <= 8 { format!("number-{n}") } else { "other".to_string() });
-    // The other numbers are the port's own: document 01 gives each the wire code 1.
+    // The other numbers are the port's own: docs/RULES.md gives each the wire code 1.
     Outcome::accepted(call, vec![Field::Number(rust.map_or(1, |error| error.to_wire()))])
 }
 

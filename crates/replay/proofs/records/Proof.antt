@@ -1,12 +1,10 @@
+-- The loop only counts up to its end.
 use Prim.Native.Nat.{_≤_, _-_}
 use mathlib.Core.Path.{_≡_}
 use lib.ListN.{length}
 use borrow.Author.Needs.{needs}
 use Rattle.replay.proofs.records.Statement.{statement}
 use Rattle.replay.proofs.records.Tie as tie
-use Rattle.replay.proofs.records.Reads as reads
-use Rattle.replay.proofs.records.Lts as lts
-use Rattle.replay.proofs.step_at.Reads as step-at-reads
 
 abbrev Inv-loop : tie.InvT-loop
 Inv-loop buf n out₀ u₀ i₀ out u i = (i ≤ 64) × (length out ≡ length out₀)
@@ -14,31 +12,24 @@ Inv-loop buf n out₀ u₀ i₀ out u i = (i ≤ 64) × (length out ≡ length o
 abbrev μ-loop : tie.MeasureT-loop
 μ-loop buf n out₀ u₀ i₀ out u i = 64 - i
 
--- src/main.rt:106:5
 loop-holds : tie.Need-loop-holds Inv-loop μ-loop
 loop-holds c = search needs
 
--- src/main.rt:107:9
 step-at-requires : tie.Need-step-at-requires Inv-loop μ-loop
 step-at-requires c κs = search needs
 
--- src/main.rt:108:9
 add-i : tie.Need-add-i Inv-loop μ-loop
 add-i c = search needs
 
--- src/main.rt:106:5
 loop-less : tie.Need-loop-less Inv-loop μ-loop
 loop-less c = search needs
 
--- src/main.rt:106:5
 loop-again : tie.Need-loop-again Inv-loop μ-loop
 loop-again c = search needs
 
--- src/main.rt:103:1
 same-length : tie.Need-same-length Inv-loop μ-loop
 same-length c = search needs
 
--- src/main.rt:103:1
 returns : tie.Need-returns Inv-loop μ-loop
 returns c = search needs
 

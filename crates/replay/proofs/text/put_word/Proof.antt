@@ -1,12 +1,10 @@
+-- The loop only counts up to its end.
 use Prim.Native.Nat.{_≤_, _-_}
 use mathlib.Core.Path.{_≡_}
 use lib.ListN.{length}
 use borrow.Author.Needs.{needs}
 use Rattle.replay.proofs.text.put_word.Statement.{statement}
 use Rattle.replay.proofs.text.put_word.Tie as tie
-use Rattle.replay.proofs.text.put_word.Reads as reads
-use Rattle.replay.proofs.text.put_word.Lts as lts
-use Rattle.replay.proofs.text.put_pair.Reads as put-pair-reads
 
 abbrev Inv-loop : tie.InvT-loop
 Inv-loop out₀ at x p₀ i₀ out p i = (i ≤ 8) × (length out ≡ length out₀)
@@ -14,47 +12,36 @@ Inv-loop out₀ at x p₀ i₀ out p i = (i ≤ 8) × (length out ≡ length out
 abbrev μ-loop : tie.MeasureT-loop
 μ-loop out₀ at x p₀ i₀ out p i = 8 - i
 
--- src/text.rt:28:5
 loop-holds : tie.Need-loop-holds Inv-loop μ-loop
 loop-holds c = search needs
 
--- src/text.rt:29:22
 mul-s : tie.Need-mul-s Inv-loop μ-loop
 mul-s c = search needs
 
--- src/text.rt:29:17
 sub-s : tie.Need-sub-s Inv-loop μ-loop
 sub-s c = search needs
 
--- src/text.rt:30:19
 shr-b : tie.Need-shr-b Inv-loop μ-loop
 shr-b c = search needs
 
--- src/text.rt:30:17
 cast-b : tie.Need-cast-b Inv-loop μ-loop
 cast-b c = search needs
 
--- src/text.rt:31:9
 put-pair-requires : tie.Need-put-pair-requires Inv-loop μ-loop
 put-pair-requires c κs = search needs
 
--- src/text.rt:32:9
 add-i : tie.Need-add-i Inv-loop μ-loop
 add-i c = search needs
 
--- src/text.rt:28:5
 loop-less : tie.Need-loop-less Inv-loop μ-loop
 loop-less c = search needs
 
--- src/text.rt:28:5
 loop-again : tie.Need-loop-again Inv-loop μ-loop
 loop-again c = search needs
 
--- src/text.rt:25:1
 same-length : tie.Need-same-length Inv-loop μ-loop
 same-length c = search needs
 
--- src/text.rt:25:1
 returns : tie.Need-returns Inv-loop μ-loop
 returns c = search needs
 

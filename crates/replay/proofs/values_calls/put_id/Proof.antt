@@ -1,13 +1,10 @@
+-- The loop only counts up to its end.
 use Prim.Native.Nat.{_≤_, _-_}
 use mathlib.Core.Path.{_≡_}
 use lib.ListN.{length}
 use borrow.Author.Needs.{needs}
 use Rattle.replay.proofs.values_calls.put_id.Statement.{statement}
 use Rattle.replay.proofs.values_calls.put_id.Tie as tie
-use Rattle.replay.proofs.values_calls.put_id.Reads as reads
-use Rattle.replay.proofs.values_calls.put_id.Lts as lts
-use Rattle.replay.proofs.text.put_byte.Reads as put-byte-reads
-use Rattle.replay.proofs.text.put_pair.Reads as put-pair-reads
 
 abbrev Inv-loop : tie.InvT-loop
 Inv-loop out₀ at id p₀ i₀ out p i = (i ≤ 20) × (length out ≡ length out₀)
@@ -15,43 +12,33 @@ Inv-loop out₀ at id p₀ i₀ out p i = (i ≤ 20) × (length out ≡ length o
 abbrev μ-loop : tie.MeasureT-loop
 μ-loop out₀ at id p₀ i₀ out p i = 20 - i
 
--- src/values_calls.rt:8:9
 put-byte-requires : tie.Need-put-byte-requires Inv-loop μ-loop
 put-byte-requires c κs = search needs
 
--- src/values_calls.rt:9:5
 put-pair-requires : tie.Need-put-pair-requires Inv-loop μ-loop
 put-pair-requires c κs = search needs
 
--- src/values_calls.rt:11:5
 loop-holds : tie.Need-loop-holds Inv-loop μ-loop
 loop-holds c = search needs
 
--- src/values_calls.rt:12:17
 element-copy-out-b : tie.Need-element-copy-out-b Inv-loop μ-loop
 element-copy-out-b c = search needs
 
--- src/values_calls.rt:13:9
 put-pair-requires-2 : tie.Need-put-pair-requires-2 Inv-loop μ-loop
 put-pair-requires-2 c κs = search needs
 
--- src/values_calls.rt:14:9
 add-i : tie.Need-add-i Inv-loop μ-loop
 add-i c = search needs
 
--- src/values_calls.rt:11:5
 loop-less : tie.Need-loop-less Inv-loop μ-loop
 loop-less c = search needs
 
--- src/values_calls.rt:11:5
 loop-again : tie.Need-loop-again Inv-loop μ-loop
 loop-again c = search needs
 
--- src/values_calls.rt:7:1
 same-length : tie.Need-same-length Inv-loop μ-loop
 same-length c = search needs
 
--- src/values_calls.rt:7:1
 returns : tie.Need-returns Inv-loop μ-loop
 returns c = search needs
 
