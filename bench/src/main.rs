@@ -37,30 +37,50 @@ pub struct Area {
     pub name: &'static str,
     /// What the calls were measured on, with its size.
     pub state: String,
-    pub rows: &'static [Row],
+    pub rows: Vec<Row>,
 }
 
-/// A published call; each side makes it n times. `tested` is the Rust's call after the test that ours makes, written in
-/// Rust over the same fixed-size state; where ours tests nothing it is `rust` again.
+/// A published call; each side makes it n times. Ours goes by value through the C ABI, and a state that comes back is stored.
+/// `tested` is the Rust's call after the test that ours makes, written in Rust over the same fixed-size state; where ours
+/// tests nothing it is `rust` again.
 pub struct Row {
     pub call: &'static str,
-    pub ours: fn(u64),
-    pub rust: fn(u64),
-    pub tested: fn(u64),
+    pub ours: fn(usize),
+    pub rust: fn(usize),
+    pub tested: fn(usize),
 }
 
-/// Makes the call n times on the state, and once more for its answer: the difference of two totals leaves that out.
-/// To the compiler the state may be another at each turn and the answer is read, so that no work leaves the loop.
-pub fn times<S, A>(n: u64, mut state: S, mut call: impl FnMut(&mut S) -> A) -> A {
-    let mut left = n;
+/// The most calls of one run.
+const MOST: usize = 2000;
+
+/// Makes the call n times, and once more for its answer. Each time it is given its own state and arguments, prepared before,
+/// so that a call that changes its state does the same work each time. The difference of two totals leaves out the one call
+/// more, and the preparing, which is as much whatever n is. The compiler takes what is given for unknown and the answer for
+/// read, so that no work leaves the loop.
+pub fn times<G, A>(n: usize, prepare: impl Fn() -> G, mut call: impl FnMut(&mut G) -> A) -> A {
+    let mut all: Vec<G> = (0..=MOST).map(|_| prepare()).collect();
+    let mut rest = all[..=n].iter_mut();
     loop {
-        let answer = call(black_box(&mut state));
+        let answer = call(black_box(rest.next().unwrap()));
         black_box(&answer);
-        if left == 0 {
+        if rest.len() == 0 {
+            // What the calls left may take more to free than what was prepared.
+            std::mem::forget(all);
             return answer;
         }
-        left -= 1;
     }
+}
+
+/// The test of what ours is given, and then the Rust's call on what the Rust is given.
+pub fn tested<G, R, A>(
+    n: usize,
+    ours: impl Fn() -> G,
+    test: impl Fn(&G) -> bool,
+    rust: impl Fn() -> R,
+    mut call: impl FnMut(&mut R) -> A,
+) {
+    let answer = times(n, || (ours(), rust()), |(ours, rust)| test(ours).then(|| call(rust)));
+    assert!(answer.is_some(), "the test fails");
 }
 
 /// A call that is refused does less: none that is measured may be.
@@ -114,9 +134,9 @@ fn list() {
     }
 }
 
-fn measured(side: &str, area: &str, call: &str) -> Option<fn(u64)> {
+fn measured(side: &str, area: &str, call: &str) -> Option<fn(usize)> {
     let area = AREAS.map(|area| area()).into_iter().find(|known| known.name == area)?;
-    let row = area.rows.iter().find(|row| row.call == call)?;
+    let row = area.rows.into_iter().find(|row| row.call == call)?;
     match side {
         "ours" => Some(row.ours),
         "rust" => Some(row.rust),

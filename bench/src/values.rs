@@ -54,19 +54,18 @@ extern "C" {
     fn vig_wire_code(number: u64) -> u64;
 }
 
+const NOTHING: fn(usize) = |n| times(n, || (), |_| ());
+const TO_WIRE: fn(usize) = |n| _ = times(n, || Error::ConnectionIdLimitError, |error| error.to_wire());
+
 pub fn area() -> Area {
-    Area { name: "values", state: "no state, and nothing to test".into(), rows: ROWS }
+    let rows = vec![
+        Row { call: "(the loop alone)", ours: NOTHING, rust: NOTHING, tested: NOTHING },
+        Row {
+            call: "wire_code",
+            ours: |n| _ = times(n, || 3, |number| unsafe { vig_wire_code(*number) }),
+            rust: TO_WIRE,
+            tested: TO_WIRE,
+        },
+    ];
+    Area { name: "values", state: "no state, so that nothing is tested".into(), rows }
 }
-
-const NOTHING: fn(u64) = |n| times(n, (), |_| ());
-const TO_WIRE: fn(u64) = |n| drop(times(n, Error::ConnectionIdLimitError, |error| error.to_wire()));
-
-const ROWS: &[Row] = &[
-    Row { call: "(the loop alone)", ours: NOTHING, rust: NOTHING, tested: NOTHING },
-    Row {
-        call: "wire_code",
-        ours: |n| drop(times(n, 3, |number| unsafe { vig_wire_code(*number) })),
-        rust: TO_WIRE,
-        tested: TO_WIRE,
-    },
-];

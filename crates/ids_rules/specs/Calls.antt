@@ -1,13 +1,13 @@
--- Every published call of the IDs but fresh, and runs of calls.
-use Prim.Native.Nat.{ℕ, _+_}
+-- Every published call of the IDs but fresh (docs/RULES.md, "Source IDs", "Destination IDs", "Marks, queues and lookups"), and runs of calls.
+use Prim.Native.Nat.{ℕ}
 use mathlib.Core.List.{List, [], _∷_, map}
-use mathlib.Core.Bool.{Bool, true, false, cond, not, _&&_, _||_}
-use mathlib.Core.Option.{Option, none, some}
+use mathlib.Core.Bool.{Bool, true, cond, not, _&&_, _||_}
+use mathlib.Core.Option.{Option}
 use lib.ListN.{length}
 use Rattle.lists.specs.Defs.{maybe, first, keep, least, front, at, empty}
 use Rattle.values.specs.declared.cid.ConnectionId.{ConnectionId}
 use Rattle.values.specs.Cid.{idFormed}
-use Rattle.ids_rules.specs.Values.{Item, seqOf, hasSeq, hasCid, unused}
+use Rattle.ids_rules.specs.Values.{seqOf, hasSeq, hasCid, unused}
 use Rattle.ids_rules.specs.View.{View, Answer, Nothing, Whole, Maybe, Found, Number, Perhaps, Flag, Frame, Out, refused}
 use Rattle.ids_rules.specs.Steps.{setInitialDcid, setScidLimit, addScid, retireScid, addDcid, markScidUsed, markDcidUsed, markScidToAdvertise, markDcidToRetire}
 use Rattle.ids_rules.specs.Well.{well}
@@ -34,7 +34,7 @@ pub data Query : Type 0 where
 pub data Call : Type 0 where
   SetInitialDcid : ConnectionId → (token : Option (List ℕ)) (path : Option ℕ) → Call
   SetScidLimit : ℕ → Call
-  AddScid : ConnectionId → (token : Option (List ℕ)) (advertise : Bool) (path : Option ℕ) (retire : Bool) → Call
+  AddScid : ConnectionId → (token : Option (List ℕ)) (advertise : Bool) (path : Option ℕ) (leave : Bool) → Call
   RetireScid : (seq : ℕ) → (packet : ConnectionId) → Call
   AddDcid : ConnectionId → (seq : ℕ) (token : List ℕ) (retirePriorTo : ℕ) → Call
   MarkScidUsed : (seq path : ℕ) → Call
@@ -97,7 +97,7 @@ queryFormed (DcidAt i) = true
 abbrev pub callFormed : Call → Bool
 callFormed (SetInitialDcid cid token path) = idFormed cid
 callFormed (SetScidLimit n) = true
-callFormed (AddScid cid token advertise path retire) = idFormed cid
+callFormed (AddScid cid token advertise path leave) = idFormed cid
 callFormed (RetireScid s packet) = idFormed packet
 callFormed (AddDcid cid s token b) = idFormed cid
 callFormed (MarkScidUsed s p) = true
@@ -109,7 +109,7 @@ callFormed (Ask q) = queryFormed q
 abbrev pub step : View → Call → Out
 step v (SetInitialDcid cid token path) = setInitialDcid cid token path v
 step v (SetScidLimit n) = setScidLimit n v
-step v (AddScid cid token advertise path retire) = addScid cid token advertise path retire v
+step v (AddScid cid token advertise path leave) = addScid cid token advertise path leave v
 step v (RetireScid s packet) = retireScid s packet v
 step v (AddDcid cid s token b) = addDcid cid s token b v
 step v (MarkScidUsed s p) = markScidUsed s p v

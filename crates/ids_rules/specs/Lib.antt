@@ -3,3 +3,16 @@ pub mod View
 pub mod Steps
 pub mod Well
 pub mod Calls
+pub mod Trials
+pub mod Bounds
+pub mod Promise
+pub mod Example
+pub mod Laws
+pub mod Ends
+pub mod Kept
+pub mod Refuses
+pub mod Never
+pub mod Once
+pub mod Promised
+pub mod Rfc
+pub mod RfcProof

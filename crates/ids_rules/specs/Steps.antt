@@ -1,7 +1,7 @@
--- docs/RULES.md, "Source IDs" and "Destination IDs": each call that changes the IDs, its checks in their order.
-use Prim.Native.Nat.{ℕ, suc, _+_, _-_, _*_, min, max}
+-- docs/RULES.md, "Source IDs", "Destination IDs" and "Marks, queues and lookups": each call that changes the IDs, its checks in their order.
+use Prim.Native.Nat.{ℕ, _+_, _-_, _*_, min, max}
 use mathlib.Core.List.{List, [], _∷_, _++_, map}
-use mathlib.Core.Bool.{Bool, true, false, cond, not, _&&_, _||_}
+use mathlib.Core.Bool.{Bool, true, false, cond, not, _&&_}
 use mathlib.Core.Option.{Option, none, some}
 use lib.ListN.{length}
 use lib.Dec.{eqb, leb, ltb}
@@ -11,7 +11,7 @@ use Rattle.values.specs.Cid.{emptyId, sameId, idFormed}
 use Rattle.values.specs.Limits.{maxDcidLimit, minScidLimit, maxCidsCount, maxSequence, queueSlots, retireFactor}
 use Rattle.ids_rules.specs.Values.{Item, onPath, seqOf, hasSeq, from, below, clashes, repeats}
 use Rattle.values.specs.declared.used.UsedSeq.{UsedSeq}
-use Rattle.ids_rules.specs.View.{View, Answer, Nothing, Issued, Freed, Retired, Out, refused, accepted, dcap}
+use Rattle.ids_rules.specs.View.{View, Nothing, Issued, Freed, Retired, Out, refused, accepted, dcap}
 use Rattle.ids_rules.specs.View.{withScids, withDcids, withSlimit, withScap, withZeroDcid, withNext, withRpt, withLargest, withAdvertise, withRetire}
 
 -- ---- fresh: one item, sequence 0, limit 2, capacity 3, next 1
@@ -114,7 +114,7 @@ tooMany v = ltb (retireFactor * v .dlimit) (length (v .retire))
 abbrev pub append : Item → List UsedSeq → View → Out
 append x pairs v = cond (leb (dcap (v .dlimit)) (length (v .dcids))) (refused 3 v) (accepted (Retired pairs) (withDcids (v .dcids ++ (x ∷ [])) v))
 
--- a sequence below the largest Retire Prior To and not queued: queue it; 4 if the queue is longer than 4 x limit, else success
+-- a sequence below the largest Retire Prior To and not queued: 6 if 128 stand in the queue, else queue it; 4 if the queue is then longer than 4 x limit, else success
 abbrev pub queueLate : ℕ → View → Out
 queueLate s v =
     cond (leb queueSlots (length (v .retire))) (refused 6 v)
@@ -129,7 +129,7 @@ pairs (x ∷ l) = maybe (x .path) (pairs l) (λ p. record { seq = x .seq; path =
 abbrev pub lowered : ℕ → View → View
 lowered b v = withDcids (keep (from b) (v .dcids)) (withRetire (v .retire ++ map seqOf (keep (below b) (v .dcids))) (withLargest b v))
 
--- Retire Prior To above the largest: move the lower ones, then the same queue check
+-- Retire Prior To above the largest: 6 if the queue and the lower ones come to more than 128, else move the lower ones; 4 if the queue is then longer than 4 x limit
 abbrev pub raise : Item → ℕ → View → Out
 raise x b v =
     cond (ltb queueSlots (length (v .retire ++ map seqOf (keep (below b) (v .dcids))))) (refused 6 v)

@@ -1,8 +1,8 @@
 -- docs/RULES.md, "Values": an item of the two tables.
 use Prim.Native.Nat.{ℕ}
-use mathlib.Core.List.{List, [], _∷_}
-use mathlib.Core.Bool.{Bool, true, false, cond, not, _&&_, _||_}
-use mathlib.Core.Option.{Option, none, some}
+use mathlib.Core.List.{List}
+use mathlib.Core.Bool.{Bool, false, not, _&&_, _||_}
+use mathlib.Core.Option.{Option, some}
 use lib.Dec.{eqb, leb}
 use Rattle.lists.specs.Defs.{same, present, maybe}
 use Rattle.values.specs.declared.cid.ConnectionId.{ConnectionId}
@@ -41,10 +41,11 @@ below b x = not (from b x)
 abbrev pub clashes : Item → Item → Bool
 clashes x y = sameId (x .cid) (y .cid) || eqb (x .seq) (y .seq)
 
--- ID, sequence and token are all equal; an absent token differs
+-- both absent, or both present with equal bytes: an absent token differs from every present one
 abbrev pub sameToken : Option (List ℕ) → Option (List ℕ) → Bool
-sameToken a b = maybe a false (λ s. maybe b false (same s))
+sameToken a b = maybe a (not (present b)) (λ s. maybe b false (same s))
 
+-- ID, sequence and token are all equal
 abbrev pub repeats : Item → Item → Bool
 repeats x y = sameId (x .cid) (y .cid) && eqb (x .seq) (y .seq) && sameToken (x .token) (y .token)
 

@@ -1,8 +1,8 @@
 -- The view of a connection's IDs, and what a call answers.
-use Prim.Native.Nat.{ℕ, _+_, _-_, _*_}
-use mathlib.Core.List.{List, [], _∷_}
-use mathlib.Core.Bool.{Bool, true, false}
-use mathlib.Core.Option.{Option, none, some}
+use Prim.Native.Nat.{ℕ, _-_, _*_}
+use mathlib.Core.List.{List}
+use mathlib.Core.Bool.{Bool}
+use mathlib.Core.Option.{Option}
 use Rattle.values.specs.declared.cid.ConnectionId.{ConnectionId}
 use Rattle.values.specs.declared.used.UsedSeq.{UsedSeq}
 use Rattle.ids_rules.specs.Values.{Item}
@@ -72,7 +72,7 @@ withRetire x v = record { scids = v .scids; dcids = v .dcids; dlimit = v .dlimit
 
 -- ---- what a call answers beside the refusal's number
 
--- a sequence that was retired, and the path that used it
+-- every refusal, and a call that answers nothing else, has Nothing; Retired has the sequences that left the table, each with the path that used it
 pub data Answer : Type 0 where
   Nothing : Answer
   Issued : (seq : ℕ) → Answer
@@ -86,7 +86,7 @@ pub data Answer : Type 0 where
   Flag : Bool → Answer
   Frame : (seq retirePriorTo : ℕ) → ConnectionId → List ℕ → Answer
 
--- refusal 0 is "accepted"
+-- what comes of a call: the refusal's number, 0 where it is accepted; the answer; the view that follows
 pub record Out : Type 0 where
   pub refusal : ℕ
   pub answer : Answer

@@ -1,7 +1,7 @@
 -- docs/RULES.md, "Well-formed IDs", of the view. (Zeros past the counts and in what is absent concern the state that is read, not the view.)
 use Prim.Native.Nat.{ℕ, _+_, _-_, _*_, _%_}
 use mathlib.Core.List.{List, [], _∷_}
-use mathlib.Core.Bool.{Bool, true, false, not, _&&_}
+use mathlib.Core.Bool.{Bool, true, not, _&&_}
 use lib.ListN.{length}
 use lib.Dec.{eqb, leb}
 use Rattle.lists.specs.Defs.{every, any, all}

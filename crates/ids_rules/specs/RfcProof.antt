@@ -1,0 +1,559 @@
+-- The rules of the RFC that the calls meet, and where they differ.
+use Prim.Native.Nat.{ℕ, _+_, _*_, _≤_, _<_, min}
+use mathlib.Core.Path.{_≡_, refl, sym, ap, _∙_, subst}
+use mathlib.Core.List.{List, [], _∷_, _++_, map}
+use mathlib.Core.Bool.{Bool, true, false, cond, not, _&&_, _||_, or-true}
+use mathlib.Core.Option.{Option, none, some}
+use native.Mathlib.Omega.{arith}
+use lib.ListN.{length, length-append}
+use lib.Dec.{eqb, leb, ltb}
+use borrow.Author.Tests.{leb-true, leb-false, ltb-true, ltb-false, eqb-true, eqb-false, le-leb, lt-ltb, le-ltb, lt-leb, eq-eqb, not-true}
+use Rattle.lists.specs.Defs.{present, first, keep, any, least, less, has}
+use Rattle.lists.specs.Bools.{and-both}
+use Rattle.lists.specs.Search.{length-keep}
+use Rattle.values.specs.declared.cid.ConnectionId.{ConnectionId}
+use Rattle.values.specs.Limits.{maxSequence, queueSlots, retireFactor}
+use Rattle.values.specs.Cid.{sameId}
+use Rattle.values.specs.Laws.{same-id-is}
+use Rattle.values.specs.Refusals.{PROTOCOL-VIOLATION}
+use Rattle.ids_rules.specs.Values.{Item, onPath, seqOf, hasSeq, hasCid, from, below, clashes, repeats}
+use Rattle.values.specs.declared.used.UsedSeq.{UsedSeq}
+use Rattle.ids_rules.specs.View.{View, Nothing, Issued, Out, dcap, withRetire}
+use Rattle.ids_rules.specs.Steps.{lowestFrom, sole, without, tooMany, queueLate, raise, append, lowered}
+use Rattle.ids_rules.specs.Ends.{Raised, spare, lifts, AddScidEnds, refuses, raises, issues, RetireScidEnds, unissued, only as only-one, absent, out, frees, AddDcidEnds, rejects, again, late4, late, lowers, renews, adds, queued, add-scid-ends, retire-scid-ends, add-dcid-ends}
+use Rattle.ids_rules.specs.Well.{well, distinct}
+use Rattle.ids_rules.specs.Calls.{Call, SetInitialDcid, SetScidLimit, AddScid, RetireScid, AddDcid, MarkScidUsed, MarkDcidUsed, MarkScidToAdvertise, MarkDcidToRetire, Ask, callFormed, step, apply}
+use Rattle.ids_rules.specs.Laws.{any-moved, decided, optioned, never, or-neither, all-append, all-kept, first-none, first-some}
+use Rattle.ids_rules.specs.Kept.{Well, well-is, raised-le}
+use Rattle.ids_rules.specs.Once.{without-gap, map-used, begun}
+use Rattle.ids_rules.specs.Rfc.{NewConnectionId, RetireConnectionId, Issue, newId, retireId, issueId, initialId, itself, itemOf, Closes, Rule, Met, MetUnless, held, atLimit, excess, noRoom, otherwise, only, noneLeft, active, initial, retiring}
+use Rattle.ids_rules.specs.Rfc.{InitialIsZero, AcceptedUntilRetired, OthersStay, WithinPeerLimit, WithinLimit, Supplies, TotalLimited, IssuanceLimited, ZeroLengthIssues, LowerAreRetired, QueueLimited, TracksTwice, NotForgotten}
+use Rattle.ids_rules.specs.Rfc.{ZeroLengthDestination, SameFrameAgain, Conflict, IssuedAboveOwn, AboveSequence, Ignores, LateIsRetired, TokenEnds, NotIssued, OwnPacket, GivenIsRetired, Conforms, Differs, cid, token, ids, dcid}
+
+-- a call with arguments of their form, on a well-formed view, is its step
+apply-is : (v : View) (c : Call) → well v ≡ true → callFormed c ≡ true → step v c ≡ apply v c
+apply-is v c h f = rw (h, f)
+
+-- a rule is met if the step meets it
+module _ {A : Type 0} (call : A → Call) (R : Rule A) where
+  met : ((v : View) (f : A) → Well v → R v f (step v (call f))) → Met call R
+  met k v f h c = subst (R v f) (apply-is v (call f) h c) (k v f (well-is v h))
+
+  met-unless : (E : View → A → Bool) → ((v : View) (f : A) → Well v → E v f ≡ false → R v f (step v (call f))) → MetUnless call E R
+  met-unless E k v f h c e = subst (R v f) (apply-is v (call f) h c) (k v f (well-is v h) e)
+
+-- ---- the rules that one test decides
+
+zero-destination : Met newId ZeroLengthDestination
+zero-destination = met newId ZeroLengthDestination (λ v f h z. rw z (refl, refl))
+
+zero-issues : Met issueId ZeroLengthIssues
+zero-issues = met issueId ZeroLengthIssues (λ v i h z. rw z (refl, λ e. omega arith))
+
+not-issued : Met retireId NotIssued
+not-issued = met retireId NotIssued (λ v f h n. rw (le-leb (v .next) (f .seq) n) (refl, refl))
+
+-- ---- repeats
+
+record Agrees (z x : Item) : Type 0 where
+  cid : z .cid ≡ x .cid
+  seq : z .seq ≡ x .seq
+
+repeats-is : (z x : Item) → repeats z x ≡ true → Agrees z x
+repeats-is z x e =
+    let a = and-both (sameId (z .cid) (x .cid) && eqb (z .seq) (x .seq)) _ e in
+    let b = and-both (sameId (z .cid) (x .cid)) (eqb (z .seq) (x .seq)) (a .0) in
+    record { cid = same-id-is (z .cid) (x .cid) (b .0); seq = eqb-true (z .seq) (x .seq) (b .1) }
+
+-- what clashes with x clashes with each item that repeats x
+clash-through : (y x : Item) (l : List Item) → any (λ (z : Item). repeats z x) l ≡ true → clashes y x ≡ true → any (clashes y) l ≡ true
+clash-through y x [] e k = never (sym e)
+clash-through y x (z ∷ l) e k = test (repeats z x) refl e (λ q. clash-through y x l q k)
+  where
+    test : (b : Bool) → repeats z x ≡ b → (b || any (λ (z : Item). repeats z x) l) ≡ true → (any (λ (z : Item). repeats z x) l ≡ true → any (clashes y) l ≡ true) → (clashes y z || any (clashes y) l) ≡ true
+    test true r e i =
+        let a : Agrees z x = repeats-is z x r in
+        let c : clashes y z ≡ true = rw (a .cid, a .seq) k in
+        rw c
+    test false r e i = rw (i e, or-true)
+
+-- where an item repeats x, the first that clashes with x repeats it
+first-repeats : (x : Item) (l : List Item) → distinct l ≡ true → any (λ (z : Item). repeats z x) l ≡ true
+    → (y : Item) × (first (λ (z : Item). clashes z x) l ≡ some y) × (repeats y x ≡ true)
+first-repeats x [] d e = never (sym e)
+first-repeats x (y ∷ l) d e =
+    let w = and-both (not (any (clashes y) l)) (distinct l) d in
+    test (repeats y x) (clashes y x) refl refl e (not-true (any (clashes y) l) (w .0)) (λ q. first-repeats x l (w .1) q)
+  where
+    test : (a b : Bool) → repeats y x ≡ a → clashes y x ≡ b → (a || any (λ (z : Item). repeats z x) l) ≡ true → any (clashes y) l ≡ false
+        → (any (λ (z : Item). repeats z x) l ≡ true → (u : Item) × (first (λ (z : Item). clashes z x) l ≡ some u) × (repeats u x ≡ true))
+        → (u : Item) × (cond b (some y) (first (λ (z : Item). clashes z x) l) ≡ some u) × (repeats u x ≡ true)
+    test true true r c e n i = (y, refl, r)
+    test true false r c e n i =
+        let g = and-both (sameId (y .cid) (x .cid) && eqb (y .seq) (x .seq)) _ r in
+        let k = and-both (sameId (y .cid) (x .cid)) (eqb (y .seq) (x .seq)) (g .0) in
+        never (sym (ap (λ (t : Bool). t || eqb (y .seq) (x .seq)) (k .0)) ∙ c)
+    test false true r c e n i = never (sym (clash-through y x l e c) ∙ n)
+    test false false r c e n i = i e
+
+same-again : Met newId SameFrameAgain
+same-again = met newId SameFrameAgain (λ v f h z e. let w = first-repeats (itemOf f) (v .dcids) (h .destination .apart) e in rw (z, w .1, w .2))
+
+-- what is found passes no test that none passes
+first-passes : {A : Type 0} (p q : A → Bool) (l : List A) (y : A) → first p l ≡ some y → any q l ≡ false → q y ≡ false
+first-passes p q [] y e k = let z : _≡_ {A = ℕ} 0 1 = cc in absurd (omega arith)
+first-passes p q (x ∷ l) y e k = let w = or-neither (q x) (any q l) k in test (p x) e (w .0) (λ g. first-passes p q l y g (w .1))
+  where
+    test : (b : Bool) → cond b (some x) (first p l) ≡ some y → q x ≡ false → (first p l ≡ some y → q y ≡ false) → q y ≡ false
+    test true e k i = let z : x ≡ y = cc in rw (← z) k
+    test false e k i = i e
+
+conflicts : Met newId Conflict
+conflicts = met newId Conflict (λ v f h c n.
+    decided (λ (o : Out). Closes PROTOCOL-VIOLATION o × (o .view ≡ v)) (v .zeroDcid) (λ e. ((refl, refl), refl)) (λ e.
+    optioned (λ (o : Out). Closes PROTOCOL-VIOLATION o × (o .view ≡ v)) (first (λ (y : Item). clashes y (itemOf f)) (v .dcids))
+    (λ e. never (sym c ∙ first-none (λ (y : Item). clashes y (itemOf f)) (v .dcids) e))
+    (λ y e. rw (first-passes (λ (y : Item). clashes y (itemOf f)) (λ (y : Item). repeats y (itemOf f)) (v .dcids) y e n) ((refl, refl), refl))))
+
+-- ---- where the table does not hold the ID or the sequence
+
+-- what comes of a NEW_CONNECTION_ID frame
+ends : (v : View) (f : NewConnectionId) → AddDcidEnds (itemOf f) (f .retirePriorTo) v (step v (newId f))
+ends v f = add-dcid-ends (f .cid) (f .seq) (f .token) (f .retirePriorTo) v
+
+issue-ends : (v : View) (i : Issue) → AddScidEnds (record { cid = i .cid; seq = v .next; token = i .token; path = i .path }) (i .advertise) v (step v (issueId i))
+issue-ends v i = add-scid-ends (i .cid) (i .token) (i .advertise) (i .path) v (i .leave)
+
+above : MetUnless newId held (AboveSequence PROTOCOL-VIOLATION)
+above = met-unless newId (AboveSequence PROTOCOL-VIOLATION) held (λ v f h n k.
+    let P : Out → Type 0 = Closes PROTOCOL-VIOLATION in
+    decided P (v .zeroDcid) (λ e. (refl, refl)) (λ e.
+    optioned P (first (λ (y : Item). clashes y (itemOf f)) (v .dcids)) (λ e. rw (lt-ltb (f .seq) (f .retirePriorTo) k) (refl, refl))
+    (λ y e. never (sym (first-some (λ (y : Item). clashes y (itemOf f)) (v .dcids) y e) ∙ n))))
+
+ignored : Met newId Ignores
+ignored v f h c k l =
+    rw (le-ltb (f .seq) (f .retirePriorTo) l, le-ltb (v .largest) (f .retirePriorTo) k, le-ltb (f .seq) 0 (omega arith), le-ltb (v .largest) 0 (omega arith))
+
+-- ---- late sequences, and raised ones
+
+has-left : (s : ℕ) (l m : List ℕ) → has s l ≡ true → has s (l ++ m) ≡ true
+has-left s [] m e = never (sym e)
+has-left s (x ∷ l) m e = test (eqb s x) e (has-left s l m)
+  where
+    test : (b : Bool) → (b || has s l) ≡ true → (has s l ≡ true → has s (l ++ m) ≡ true) → (b || has s (l ++ m)) ≡ true
+    test true e i = refl
+    test false e i = i e
+
+has-right : (s : ℕ) (l m : List ℕ) → has s m ≡ true → has s (l ++ m) ≡ true
+has-right s [] m e = e
+has-right s (x ∷ l) m e = rw (has-right s l m e, or-true)
+
+late-retired : (v : View) (f : NewConnectionId) {o : Out} → AddDcidEnds (itemOf f) (f .retirePriorTo) v o → held v f ≡ false → LateIsRetired v f o
+late-retired v f (rejects n k) c l z = absurd (omega arith)
+late-retired v f (again e) c l z = never (sym e ∙ c)
+late-retired v f (late4 n k m) c l z = absurd (omega arith)
+late-retired v f (late n k m t) c l z = has-right (f .seq) (v .retire) (f .seq ∷ []) (rw (eq-eqb (f .seq) (f .seq) refl))
+late-retired v f (lowers m k n u q) c l z = absurd (omega arith)
+late-retired v f (renews n u q r t) c l z = absurd (omega (arith, n .fits))
+late-retired v f (adds n u q r) c l z = q l
+
+-- a sequence of the table below b, and one not below b
+has-below : (s b : ℕ) (l : List Item) → s < b → has s (map seqOf l) ≡ true → has s (map seqOf (keep (below b) l)) ≡ true
+has-below s b [] k e = e
+has-below s b (x ∷ l) k e = test (eqb s (x .seq)) (leb b (x .seq)) refl refl e (has-below s b l k)
+  where
+    test : (t u : Bool) → eqb s (x .seq) ≡ t → leb b (x .seq) ≡ u → (t || has s (map seqOf l)) ≡ true → (has s (map seqOf l) ≡ true → has s (map seqOf (keep (below b) l)) ≡ true)
+        → has s (map seqOf (cond (not u) (x ∷ keep (below b) l) (keep (below b) l))) ≡ true
+    test true true p q e i = absurd (omega (arith, eqb-true s (x .seq) p, leb-true b (x .seq) q))
+    test true false p q e i = rw p
+    test false true p q e i = i e
+    test false false p q e i = rw p (i e)
+
+has-from : (s b : ℕ) (l : List Item) → b ≤ s → has s (map seqOf l) ≡ true → has s (map seqOf (keep (from b) l)) ≡ true
+has-from s b [] k e = e
+has-from s b (x ∷ l) k e = test (eqb s (x .seq)) (leb b (x .seq)) refl refl e (has-from s b l k)
+  where
+    test : (t u : Bool) → eqb s (x .seq) ≡ t → leb b (x .seq) ≡ u → (t || has s (map seqOf l)) ≡ true → (has s (map seqOf l) ≡ true → has s (map seqOf (keep (from b) l)) ≡ true)
+        → has s (map seqOf (cond u (x ∷ keep (from b) l) (keep (from b) l))) ≡ true
+    test true false p q e i = absurd (omega (arith, eqb-true s (x .seq) p, leb-false b (x .seq) q))
+    test true true p q e i = rw p
+    test false false p q e i = i e
+    test false true p q e i = rw p (i e)
+
+lower-retired : (v : View) (f : NewConnectionId) {o : Out} → AddDcidEnds (itemOf f) (f .retirePriorTo) v o → held v f ≡ false → LowerAreRetired v f o
+lower-retired v f (rejects n k) c l z = absurd (omega arith)
+lower-retired v f (again e) c l z = never (sym e ∙ c)
+lower-retired v f (late4 n k m) c l z = absurd (omega arith)
+lower-retired v f (late n k m t) c l z = absurd (omega (arith, n .fits))
+lower-retired v f (lowers m k n u q) c l z = absurd (omega arith)
+lower-retired v f (renews n u q r t) c l z =
+    let b : ℕ = f .retirePriorTo in (
+      all-append (from b) (keep (from b) (v .dcids)) (itemOf f ∷ []) (all-kept (from b) (v .dcids)) (rw (le-leb b (f .seq) (n .fits))),
+      λ s t k. has-right s (v .retire) _ (has-below s b (v .dcids) k t),
+    )
+lower-retired v f (adds n u q r) c l z = absurd (omega arith)
+
+-- ---- the destination limit
+
+limit-within : (v : View) (f : NewConnectionId) {o : Out} → AddDcidEnds (itemOf f) (f .retirePriorTo) v o → length (v .dcids) < v .dlimit → WithinLimit v f o
+limit-within v f (rejects n k) l z = absurd (omega arith)
+limit-within v f (again e) l z = omega arith
+limit-within v f (late4 n k m) l z = absurd (omega arith)
+limit-within v f (late n k m t) l z = omega arith
+limit-within v f (lowers m k n u q) l z = absurd (omega arith)
+limit-within v f (renews n u q r t) l z = simp length-append (omega (arith, length-keep (from (f .retirePriorTo)) (v .dcids)))
+limit-within v f (adds n u q r) l z = simp length-append (omega arith)
+
+-- ---- nothing is forgotten
+
+record Kept (v : View) (o : Out) : Type 0 where
+  each : (s : ℕ) → has s (map seqOf (v .dcids)) ≡ true → (has s (map seqOf (o .view .dcids)) || has s (o .view .retire)) ≡ true
+
+-- the table is the same
+same : (v : View) (o : Out) → o .view .dcids ≡ v .dcids → Kept v o
+same v o q = record { each = λ s e. rw (q, e) }
+
+-- the table is longer
+longer : (x : Item) (l : List Item) (q : List ℕ) (s : ℕ) → (has s (map seqOf l) || has s q) ≡ true → (has s (map seqOf (l ++ (x ∷ []))) || has s q) ≡ true
+longer x [] q s e = rw (e, or-true)
+longer x (y ∷ l) q s e = test (eqb s (y .seq)) e (longer x l q s)
+  where
+    test : (b : Bool) → (b || has s (map seqOf l) || has s q) ≡ true → ((has s (map seqOf l) || has s q) ≡ true → (has s (map seqOf (l ++ (x ∷ []))) || has s q) ≡ true)
+        → (b || has s (map seqOf (l ++ (x ∷ []))) || has s q) ≡ true
+    test true e i = refl
+    test false e i = i e
+
+-- what is below b goes to the queue
+lowered-keeps : (v : View) (b s : ℕ) → has s (map seqOf (v .dcids)) ≡ true → (has s (map seqOf (keep (from b) (v .dcids))) || has s (queued b v)) ≡ true
+lowered-keeps v b s e = test (leb b s) refl
+  where
+    test : (t : Bool) → leb b s ≡ t → (has s (map seqOf (keep (from b) (v .dcids))) || has s (queued b v)) ≡ true
+    test true q = rw (has-from s b (v .dcids) (leb-true b s q) e)
+    test false q = rw (has-right s (v .retire) _ (has-below s b (v .dcids) (leb-false b s q) e), or-true)
+
+dcid-keeps : {x : Item} {b : ℕ} (v : View) {o : Out} → AddDcidEnds x b v o → Kept v o
+dcid-keeps v (rejects n k) = same v _ refl
+dcid-keeps v (again e) = same v _ refl
+dcid-keeps v (late4 n k m) = same v _ refl
+dcid-keeps v (late n k m t) = same v _ refl
+dcid-keeps {b = b} v (lowers m k n u q) = record { each = lowered-keeps v b }
+dcid-keeps {x} {b} v (renews n u q r t) = record { each = λ s e. longer x (keep (from b) (v .dcids)) (queued b v) s (lowered-keeps v b s e) }
+dcid-keeps {x} v (adds n u q r) = record { each = λ s e. longer x (v .dcids) (v .retire) s (rw e) }
+
+add-keeps : {x : Item} {advertise : Bool} (v : View) {o : Out} → AddScidEnds x advertise v o → Kept v o
+add-keeps v (refuses n k) = same v _ refl
+add-keeps v (raises n r k t) = same v _ refl
+add-keeps v (issues r t n p l a) = same v _ refl
+
+retire-keeps : {s : ℕ} {packet : ConnectionId} (v : View) {o : Out} → RetireScidEnds s packet v o → Kept v o
+retire-keeps v (unissued k) = same v _ refl
+retire-keeps v (only-one e) = same v _ refl
+retire-keeps v (absent e) = same v _ refl
+retire-keeps v (out n k a e) = same v _ refl
+retire-keeps v (frees x r a e l) = same v _ refl
+
+step-keeps : (v : View) (c : Call) → initial v c ≡ false → Kept v (step v c)
+step-keeps v (SetInitialDcid cid token path) i = never i
+step-keeps v (SetScidLimit n) i = same v _ refl
+step-keeps v (AddScid cid token advertise path leave) i = add-keeps v (add-scid-ends cid token advertise path v leave)
+step-keeps v (RetireScid s packet) i = retire-keeps v (retire-scid-ends s packet v)
+step-keeps v (AddDcid cid s token b) i = dcid-keeps v (add-dcid-ends cid s token b v)
+step-keeps v (MarkScidUsed s p) i = decided (Kept v) (any (hasSeq s) (v .scids)) (λ e. same v _ refl) (λ e. same v _ refl)
+step-keeps v (MarkDcidUsed s p) i = decided (Kept v) (any (hasSeq s) (v .dcids)) (λ e. record { each = λ t q. rw (map-used s p (v .dcids), q) }) (λ e. same v _ refl)
+step-keeps v (MarkScidToAdvertise s on) i = decided (Kept v) (on && leb queueSlots (length (v .advertise))) (λ e. same v _ refl) (λ e. same v _ refl)
+step-keeps v (MarkDcidToRetire s on) i = decided (Kept v) (on && leb queueSlots (length (v .retire))) (λ e. same v _ refl) (λ e. same v _ refl)
+step-keeps v (Ask q) i = same v _ refl
+
+-- ---- the peer's limit
+
+keep-one-more : (p : Item → Bool) (l : List Item) (x : Item) → length (keep p (l ++ (x ∷ []))) ≤ length (keep p l) + 1
+keep-one-more p [] x = decided (λ (m : List Item). length m ≤ 1) (p x) (λ e. omega arith) (λ e. omega arith)
+keep-one-more p (y ∷ l) x = test (p y) (keep-one-more p l x)
+  where
+    test : (b : Bool) → length (keep p (l ++ (x ∷ []))) ≤ length (keep p l) + 1 → length (cond b (y ∷ keep p (l ++ (x ∷ []))) (keep p (l ++ (x ∷ [])))) ≤ length (cond b (y ∷ keep p l) (keep p l)) + 1
+    test true i = omega arith
+    test false i = omega arith
+
+-- the lowest not below b is not below b, and is there
+lowest-is : (b s : ℕ) (l : List Item) → lowestFrom b l ≡ some s → (b ≤ s) × (has s (map seqOf l) ≡ true)
+lowest-is b s [] e = let z : _≡_ {A = ℕ} 0 1 = cc in absurd (omega arith)
+lowest-is b s (x ∷ l) e = test (leb b (x .seq)) refl (λ t q. lowest-is b t l q) e
+  where
+    pick : (m : ℕ) → min m (x .seq) ≡ s → b ≤ x .seq → (b ≤ m) × (has m (map seqOf l) ≡ true) → (b ≤ s) × ((eqb s (x .seq) || has s (map seqOf l)) ≡ true)
+    pick m q k i =
+        (omega (arith, i .0), choose (leb m (x .seq)) refl)
+      where
+        choose : (t : Bool) → leb m (x .seq) ≡ t → (eqb s (x .seq) || has s (map seqOf l)) ≡ true
+        choose true r = let z : m ≡ s = omega (arith, leb-true m (x .seq) r) in rw (← z) (rw (i .1, or-true))
+        choose false r = rw (eq-eqb s (x .seq) (omega (arith, leb-false m (x .seq) r)))
+
+    test : (t : Bool) → leb b (x .seq) ≡ t → ((u : ℕ) → least (map seqOf (keep (from b) l)) ≡ some u → (b ≤ u) × (has u (map seqOf l) ≡ true))
+        → least (map seqOf (cond t (x ∷ keep (from b) l) (keep (from b) l))) ≡ some s → (b ≤ s) × ((eqb s (x .seq) || has s (map seqOf l)) ≡ true)
+    test true q i e = inner (least (map seqOf (keep (from b) l))) refl e
+      where
+        inner : (o : Option ℕ) → least (map seqOf (keep (from b) l)) ≡ o → less o (x .seq) ≡ some s → (b ≤ s) × ((eqb s (x .seq) || has s (map seqOf l)) ≡ true)
+        inner none r e = let z : x .seq ≡ s = cc in (omega (arith, leb-true b (x .seq) q), rw (eq-eqb s (x .seq) (sym z)))
+        inner (some m) r e = let z : min m (x .seq) ≡ s = cc in pick m z (leb-true b (x .seq) q) (i m r)
+    test false q i e = let w = i s e in (w .0, rw (w .1, or-true))
+
+-- one fewer, from above the lowest
+not-more : (b s : ℕ) (l : List Item) → b ≤ s → length (keep (from (s + 1)) l) ≤ length (keep (from b) l)
+not-more b s [] k = omega arith
+not-more b s (x ∷ l) k = test (leb (s + 1) (x .seq)) (leb b (x .seq)) refl refl (not-more b s l k)
+  where
+    test : (t u : Bool) → leb (s + 1) (x .seq) ≡ t → leb b (x .seq) ≡ u → length (keep (from (s + 1)) l) ≤ length (keep (from b) l)
+        → length (cond t (x ∷ keep (from (s + 1)) l) (keep (from (s + 1)) l)) ≤ length (cond u (x ∷ keep (from b) l) (keep (from b) l))
+    test true true p q i = omega arith
+    test true false p q i = absurd (omega (arith, leb-true (s + 1) (x .seq) p, leb-false b (x .seq) q))
+    test false true p q i = omega arith
+    test false false p q i = i
+
+fewer : (b s : ℕ) (l : List Item) → b ≤ s → has s (map seqOf l) ≡ true → length (keep (from (s + 1)) l) < length (keep (from b) l)
+fewer b s [] k e = never (sym e)
+fewer b s (x ∷ l) k e = test (eqb s (x .seq)) (leb (s + 1) (x .seq)) (leb b (x .seq)) refl refl refl e (fewer b s l k) (not-more b s l k)
+  where
+    test : (a t u : Bool) → eqb s (x .seq) ≡ a → leb (s + 1) (x .seq) ≡ t → leb b (x .seq) ≡ u → (a || has s (map seqOf l)) ≡ true
+        → (has s (map seqOf l) ≡ true → length (keep (from (s + 1)) l) < length (keep (from b) l)) → length (keep (from (s + 1)) l) ≤ length (keep (from b) l)
+        → length (cond t (x ∷ keep (from (s + 1)) l) (keep (from (s + 1)) l)) < length (cond u (x ∷ keep (from b) l) (keep (from b) l))
+    test true true u o p q e i n = absurd (omega (arith, eqb-true s (x .seq) o, leb-true (s + 1) (x .seq) p))
+    test true false true o p q e i n = omega arith
+    test true false false o p q e i n = absurd (omega (arith, eqb-true s (x .seq) o, leb-false b (x .seq) q))
+    test false true true o p q e i n = omega (arith, i e)
+    test false true false o p q e i n = absurd (omega (arith, leb-true (s + 1) (x .seq) p, leb-false b (x .seq) q))
+    test false false true o p q e i n = omega (arith, i e)
+    test false false false o p q e i n = i e
+
+raised-few : (v : View) {r : ℕ} → Raised v r → active v ≤ v .slimit → length (keep (from r) (v .scids)) < v .slimit
+raised-few v (spare k) a = omega (arith, length-keep (from (v .rpt)) (v .scids))
+raised-few v (lifts s e) a = let w = lowest-is (v .rpt) s (v .scids) e in omega (arith, fewer (v .rpt) s (v .scids) (w .0) (w .1))
+
+peer-within : {x : Item} {advertise : Bool} (v : View) (i : Issue) {o : Out} → AddScidEnds x advertise v o → active v ≤ v .slimit → WithinPeerLimit v i o
+peer-within v i (refuses n k) a z = absurd (omega arith)
+peer-within v i (raises n r k t) a z = absurd (omega arith)
+peer-within {x} v i (issues r t n p l q) a z = omega (arith, keep-one-more (from r) (v .scids) x, raised-few v t a)
+
+-- ---- the frame of the ID just issued
+
+not-nothing : {A : Type 0} (n : ℕ) → Nothing ≡ Issued n → A
+not-nothing n e = let z : _≡_ {A = ℕ} 0 1 = cc in absurd (omega arith)
+
+own-above : {x : Item} {advertise : Bool} (v : View) (i : Issue) {o : Out} → Well v → AddScidEnds x advertise v o → IssuedAboveOwn v i o
+own-above v i h (refuses n k) m e = not-nothing m e
+own-above v i h (raises n r k t) m e = not-nothing m e
+own-above v i h (issues r t n p l q) m e = let z : v .next ≡ m = cc in omega (arith, raised-le v t h)
+
+-- ---- a retire of the packet's own ID
+
+own-packet : MetUnless retireId only OwnPacket
+own-packet = met-unless retireId OwnPacket only (λ v f h o x e s.
+    let P : Out → Type 0 = Closes PROTOCOL-VIOLATION in
+    decided P (leb (v .next) (f .seq)) (λ e. (refl, refl)) (λ q. rw (o, e, s) (refl, refl)))
+
+-- ---- an issued ID is accepted until the peer retires it
+
+any-left : {A : Type 0} (p : A → Bool) (l m : List A) → any p l ≡ true → any p (l ++ m) ≡ true
+any-left p [] m e = never (sym e)
+any-left p (x ∷ l) m e = test (p x) e (any-left p l m)
+  where
+    test : (b : Bool) → (b || any p l) ≡ true → (any p l ≡ true → any p (l ++ m) ≡ true) → (b || any p (l ++ m)) ≡ true
+    test true e i = refl
+    test false e i = i e
+
+record Accepts (v : View) (o : Out) : Type 0 where
+  each : (id : ConnectionId) → any (hasCid id) (v .scids) ≡ true → any (hasCid id) (o .view .scids) ≡ true
+
+-- the table is the same
+alike : (v : View) (o : Out) → o .view .scids ≡ v .scids → Accepts v o
+alike v o q = record { each = λ id e. rw q e }
+
+add-accepts : {x : Item} {advertise : Bool} (v : View) {o : Out} → AddScidEnds x advertise v o → Accepts v o
+add-accepts v (refuses n k) = alike v _ refl
+add-accepts v (raises n r k t) = alike v _ refl
+add-accepts {x} v (issues r t n p l a) = record { each = λ id e. any-left (hasCid id) (v .scids) (x ∷ []) e }
+
+dcid-accepts : {x : Item} {b : ℕ} (v : View) {o : Out} → AddDcidEnds x b v o → Accepts v o
+dcid-accepts v (rejects n k) = alike v _ refl
+dcid-accepts v (again e) = alike v _ refl
+dcid-accepts v (late4 n k m) = alike v _ refl
+dcid-accepts v (late n k m t) = alike v _ refl
+dcid-accepts v (lowers m k n u q) = alike v _ refl
+dcid-accepts v (renews n u q r t) = alike v _ refl
+dcid-accepts v (adds n u q r) = alike v _ refl
+
+used-id : (id : ConnectionId) (s p : ℕ) (x : Item) → hasCid id (cond (hasSeq s x) (onPath p x) x) ≡ hasCid id x
+used-id id s p x = decided (λ (y : Item). hasCid id y ≡ hasCid id x) (hasSeq s x) (λ e. refl) (λ e. refl)
+
+step-accepts : (v : View) (c : Call) → retiring v c ≡ false → Accepts v (step v c)
+step-accepts v (SetInitialDcid cid token path) i = alike v _ refl
+step-accepts v (SetScidLimit n) i = alike v _ refl
+step-accepts v (AddScid cid token advertise path leave) i = add-accepts v (add-scid-ends cid token advertise path v leave)
+step-accepts v (RetireScid s packet) i = never i
+step-accepts v (AddDcid cid s token b) i = dcid-accepts v (add-dcid-ends cid s token b v)
+step-accepts v (MarkScidUsed s p) i =
+    decided (Accepts v) (any (hasSeq s) (v .scids)) (λ e. record { each = λ id q. any-moved (hasCid id) _ (used-id id s p) (v .scids) ∙ q }) (λ e. alike v _ refl)
+step-accepts v (MarkDcidUsed s p) i = decided (Accepts v) (any (hasSeq s) (v .dcids)) (λ e. alike v _ refl) (λ e. alike v _ refl)
+step-accepts v (MarkScidToAdvertise s on) i = decided (Accepts v) (on && leb queueSlots (length (v .advertise))) (λ e. alike v _ refl) (λ e. alike v _ refl)
+step-accepts v (MarkDcidToRetire s on) i = decided (Accepts v) (on && leb queueSlots (length (v .retire))) (λ e. alike v _ refl) (λ e. alike v _ refl)
+step-accepts v (Ask q) i = alike v _ refl
+
+-- ---- a retire takes out the sequence that it names, and no other
+
+has-without : (s t : ℕ) (l : List Item) → eqb s t ≡ false → has s (map seqOf l) ≡ true → has s (map seqOf (without t l)) ≡ true
+has-without s t [] d e = e
+has-without s t (x ∷ l) d e = test (eqb s (x .seq)) (eqb t (x .seq)) refl refl e (has-without s t l d)
+  where
+    test : (a b : Bool) → eqb s (x .seq) ≡ a → eqb t (x .seq) ≡ b → (a || has s (map seqOf l)) ≡ true → (has s (map seqOf l) ≡ true → has s (map seqOf (without t l)) ≡ true)
+        → has s (map seqOf (cond (not b) (x ∷ without t l) (without t l))) ≡ true
+    test true true p q e i = absurd (eqb-false s t d (omega (arith, eqb-true s (x .seq) p, eqb-true t (x .seq) q)))
+    test true false p q e i = rw p
+    test false true p q e i = i e
+    test false false p q e i = rw p (i e)
+
+others-stay : (v : View) (f : RetireConnectionId) {o : Out} → RetireScidEnds (f .seq) (f .packet) v o → OthersStay v f o
+others-stay v f (unissued k) s d e = e
+others-stay v f (only-one q) s d e = e
+others-stay v f (absent q) s d e = e
+others-stay v f (out n k a q) s d e = has-without s (f .seq) (v .scids) d e
+others-stay v f (frees x r a q l) s d e = has-without s (f .seq) (v .scids) d e
+
+without-is : (s : ℕ) (l : List Item) → any (hasSeq s) (without s l) ≡ false
+without-is s [] = refl
+without-is s (x ∷ l) = test (eqb s (x .seq)) refl (without-is s l)
+  where
+    test : (b : Bool) → eqb s (x .seq) ≡ b → any (hasSeq s) (without s l) ≡ false → any (hasSeq s) (cond (not b) (x ∷ without s l) (without s l)) ≡ false
+    test true e i = i
+    test false e i = rw e i
+
+token-ends : (v : View) (f : RetireConnectionId) {o : Out} → RetireScidEnds (f .seq) (f .packet) v o → TokenEnds v f o
+token-ends v f (unissued k) z = absurd (omega arith)
+token-ends v f (only-one q) z = absurd (omega arith)
+token-ends v f (absent q) z = q
+token-ends v f (out n k a q) z = absurd (omega arith)
+token-ends v f (frees x r a q l) z = without-is (f .seq) (v .scids)
+
+not-none : {A : Type 0} (o : Option A) → not (present o) ≡ false → (a : A) × (o ≡ some a)
+not-none none e = never e
+not-none (some a) e = (a, refl)
+
+given-retired : MetUnless retireId noneLeft GivenIsRetired
+given-retired = met-unless retireId GivenIsRetired noneLeft (λ v f h n x b e s.
+    let w = or-neither (sole (f .seq) (v .scids)) _ n in
+    let r = not-none (lowestFrom (v .rpt) (without (f .seq) (v .scids))) (w .1) in
+    rw (lt-leb (v .next) (f .seq) b, w .0, e, s, r .1))
+
+-- ---- supply, and the limits of issuing
+
+supplied : MetUnless issueId noRoom Supplies
+supplied = met-unless issueId Supplies noRoom (λ v i h n z t a.
+    let u = or-neither (leb (v .slimit) (length (v .scids))) _ n in
+    let w = or-neither (leb maxSequence (v .next)) _ (u .1) in
+    let k : length (v .scids) < v .slimit = leb-false (v .slimit) (length (v .scids)) (u .0) in
+    rw (z, w .0, lt-ltb (length (v .scids)) (v .slimit) k, t, lt-leb (v .scap) (length (v .scids)) (omega (arith, h .limits .room, h .limits .slow)), w .1))
+
+total-limited : {x : Item} {advertise : Bool} (v : View) (i : Issue) {o : Out} → AddScidEnds x advertise v o → TotalLimited v i o
+total-limited v i (refuses n k) m e = not-nothing m e
+total-limited v i (raises n r k t) m e = not-nothing m e
+total-limited v i (issues r t n p l q) m e = let z : v .next ≡ m = cc in omega arith
+
+-- ---- the retire queue
+
+queue-limited : (v : View) (f : NewConnectionId) {o : Out} → AddDcidEnds (itemOf f) (f .retirePriorTo) v o → QueueLimited v f o
+queue-limited v f (rejects n k) z l = absurd (omega arith)
+queue-limited v f (again e) z l = absurd (omega arith)
+queue-limited v f (late4 n k m) z l = absurd (omega arith)
+queue-limited v f (late n k m t) z l = ltb-false _ _ t
+queue-limited v f (lowers m k n u q) z l = absurd (omega arith)
+queue-limited v f (renews n u q r t) z l = ltb-false _ _ t
+queue-limited v f (adds n u q r) z l = absurd (omega arith)
+
+too-many : (w : View) → tooMany w ≡ true → retireFactor * w .dlimit < length (w .retire)
+too-many w t = ltb-true (retireFactor * w .dlimit) (length (w .retire)) t
+
+module _ (v : View) (f : NewConnectionId) where
+  abbrev Tracks : Out → Type 0
+  Tracks o = TracksTwice v f o
+
+  append-tracks : (ps : List UsedSeq) (w : View) → Tracks (append (itemOf f) ps w)
+  append-tracks ps w = decided Tracks (leb (dcap (w .dlimit)) (length (w .dcids))) (λ e l c. omega (arith, c .1)) (λ e l c. never (c .0))
+
+  late-tracks : Tracks (queueLate (f .seq) v)
+  late-tracks =
+      decided Tracks (leb queueSlots (length (v .retire))) (λ e l c. omega (arith, c .1)) (λ e.
+      decided Tracks (tooMany (withRetire (v .retire ++ (f .seq ∷ [])) v)) (λ t l c. omega (arith, too-many (withRetire (v .retire ++ (f .seq ∷ [])) v) t)) (λ t l c. never (c .0)))
+
+  raise-tracks : Tracks (raise (itemOf f) (f .retirePriorTo) v)
+  raise-tracks =
+      decided Tracks (ltb queueSlots (length (queued (f .retirePriorTo) v))) (λ e l c. omega (arith, c .1)) (λ e.
+      decided Tracks (tooMany (lowered (f .retirePriorTo) v)) (λ t l c. omega (arith, too-many (lowered (f .retirePriorTo) v) t)) (λ t. append-tracks _ (lowered (f .retirePriorTo) v)))
+
+  step-tracks : otherwise v f ≡ false → Tracks (step v (newId f))
+  step-tracks n =
+      let u = or-neither (v .zeroDcid) _ n in
+      let w = or-neither (held v f) _ (u .1) in
+      decided Tracks (v .zeroDcid) (λ e. never (sym e ∙ u .0)) (λ e.
+      optioned Tracks (first (λ (y : Item). clashes y (itemOf f)) (v .dcids))
+      (λ e. decided Tracks (ltb (f .seq) (f .retirePriorTo)) (λ e. never (sym e ∙ w .1)) (λ e.
+      decided Tracks (ltb (f .seq) (v .largest) && not (has (f .seq) (v .retire))) (λ e. late-tracks) (λ e.
+      decided Tracks (ltb (v .largest) (f .retirePriorTo)) (λ e. raise-tracks) (λ e. append-tracks [] v))))
+      (λ y e. never (sym (first-some (λ (y : Item). clashes y (itemOf f)) (v .dcids) y e) ∙ w .0)))
+
+-- ---- the whole
+
+pub conforms : Conforms
+conforms = record {
+  ownInitialIsZero = λ v s. begun v s .table;
+  initialIsZero = met initialId InitialIsZero (λ v i h. refl);
+  increasesByOne = without-gap;
+  acceptedUntilRetired = met-unless itself AcceptedUntilRetired retiring (λ v c h i. step-accepts v c i .each);
+  othersStay = met retireId OthersStay (λ v f h. others-stay v f (retire-scid-ends (f .seq) (f .packet) v));
+  withinPeerLimit = met-unless issueId WithinPeerLimit excess (λ v i h x. peer-within v i (issue-ends v i) (ltb-false (v .slimit) (active v) x));
+  withinLimit = met-unless newId WithinLimit atLimit (λ v f h a. limit-within v f (ends v f) (leb-false (v .dlimit) (length (v .dcids)) a));
+  supplies = supplied;
+  totalLimited = met issueId TotalLimited (λ v i h. total-limited v i (issue-ends v i));
+  issuanceLimited = met SetScidLimit IssuanceLimited (λ v n h. (omega arith, omega arith));
+  zeroLengthIssues = zero-issues;
+  lowerAreRetired = met-unless newId LowerAreRetired held (λ v f h c. lower-retired v f (ends v f) c);
+  queueLimited = met newId QueueLimited (λ v f h. queue-limited v f (ends v f));
+  tracksTwice = met-unless newId TracksTwice otherwise (λ v f h n. step-tracks v f n);
+  notForgotten = met-unless itself NotForgotten initial (λ v c h i. step-keeps v c i .each);
+  zeroLengthDestination = zero-destination;
+  sameFrameAgain = same-again;
+  conflict = conflicts;
+  issuedAboveOwn = met issueId IssuedAboveOwn (λ v i h. own-above v i h (issue-ends v i));
+  aboveSequence = above;
+  ignores = ignored;
+  lateIsRetired = met-unless newId LateIsRetired held (λ v f h c. late-retired v f (ends v f) c);
+  tokenEnds = met retireId TokenEnds (λ v f h. token-ends v f (retire-scid-ends (f .seq) (f .packet) v));
+  notIssued = not-issued;
+  ownPacket = own-packet;
+  givenIsRetired = given-retired;
+}
+
+pub differs : Differs
+differs = record {
+  encoding = (refl, refl, λ r. omega (arith, r (omega arith) .1));
+  overLimit = (refl, refl, λ r. omega (arith, r refl));
+  comesBack = (refl, refl, λ r. never (r (omega arith) refl));
+  zeroLengthSource = (refl, refl, λ r. omega (arith, r refl .1));
+  repeatRaises = (refl, refl, λ r. never (sym (r (omega arith) refl .0)));
+  encodingOfRepeat = (refl, refl, λ r. r (omega arith) refl);
+  tooManyToRetire = (refl, refl, λ r. omega (arith, r refl (λ z. omega arith) .1));
+  frameOfRetired = (refl, refl, λ r. omega (arith, r 1 2 (cid 2) token refl));
+  retiresUnsent = (refl, refl, λ r. never (r refl .0));
+  frameForRetired = (refl, refl, λ r. never (r refl));
+  takesEmpty = (refl, refl, λ r. never (r refl .0));
+  overPeerLimit = (refl, refl, λ r. omega (arith, r refl));
+  cannotSupply = (refl, refl, λ r. omega (arith, r refl refl (omega arith)));
+  cannotSupplyWithLeave = (refl, refl, λ r. omega (arith, r refl refl (omega arith)));
+  forgets = (refl, refl, λ r. never (sym (r 1 refl)));
+  cutsLonger = (refl, refl, λ r. never (r (omega arith) .0));
+  retireRefused = (refl, refl, λ r. omega (arith, r _ (omega arith) refl refl));
+  onlyOwnPacket = (refl, refl, λ r. omega (arith, r _ refl refl .1));
+  sameFrameRefused = (refl, refl, λ r. omega (arith, r (ids 1) (newId (dcid 3 1 1) ∷ []) refl refl));
+  raisesAgain = (refl, refl, λ r. omega (arith, r refl));
+  offersRetired = (refl, refl, λ r. never (r refl 0 refl));
+  issuedTwice = (refl, refl, λ r. never (r refl));
+  issuesEmpty = (refl, refl, λ r. never (sym (r refl)));
+  lowLimit = (refl, refl, λ r. never (r (omega arith) .0));
+}
