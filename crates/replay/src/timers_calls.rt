@@ -1,9 +1,11 @@
-// The calls 10 to 15.
+// The calls 10 to 15. Those that are lent in place too are made both ways: a line says so where the two forms differ, and no answer line looks like it.
 use crate::digest;
 use crate::record::Record;
 use crate::text;
 use timers::TimerTable;
+use timers::TimersOut;
 use values::Moment;
+use values::Timed;
 
 // The table after a call, and the place after its line.
 pub struct TimersLine {
@@ -21,7 +23,26 @@ fn changed(t: TimerTable, refusal: u8, call: u8, out: &mut [u8], at: usize) -> T
     ended(t, out, p)
 }
 
-fn timed(t: TimerTable, a: values::Timed, call: u8, out: &mut [u8], at: usize) -> TimersLine {
+// The table and the refusal of the call by value, if the lent form gave the same.
+fn agreed(o: TimersOut, lent: TimersOut, call: u8, out: &mut [u8], at: usize) -> TimersLine {
+    let t = o.timers;
+    let u = lent.timers;
+    let same = (digest::of_timers(t) == digest::of_timers(u))
+        & (o.answer.refusal == lent.answer.refusal);
+    if same {
+        return changed(t, o.answer.refusal, call, out, at);
+    }
+    let p = text::put_text(out, at, b"the lent form differs\n");
+    TimersLine { timers: t, at: p }
+}
+
+fn same_time(a: Timed, b: Timed) -> bool {
+    let d = a.deadline;
+    let e = b.deadline;
+    (a.refusal == b.refusal) & (d.set == e.set) & (d.at.us == e.at.us)
+}
+
+fn timed(t: TimerTable, a: Timed, call: u8, out: &mut [u8], at: usize) -> TimersLine {
     let d = a.deadline;
     let p = text::put_head(out, at, call, a.refusal);
     let q = text::put_flag(out, p, d.set);
@@ -36,20 +57,33 @@ pub fn line(t: TimerTable, r: Record, out: &mut [u8], at: usize) -> TimersLine {
         return changed(timers::fresh(), 0, call, out, at);
     }
     if call == 0x11 {
-        let o = timers::set(t, r.n0, m);
-        let u = o.timers;
-        return changed(u, o.answer.refusal, call, out, at);
+        return agreed(
+            timers::set(t, r.n0, m),
+            timers_by_lending::set(t, r.n0, m),
+            call,
+            out,
+            at,
+        );
     }
     if call == 0x12 {
-        let o = timers::stop(t, r.n0);
-        let u = o.timers;
-        return changed(u, o.answer.refusal, call, out, at);
+        return agreed(
+            timers::stop(t, r.n0),
+            timers_by_lending::stop(t, r.n0),
+            call,
+            out,
+            at,
+        );
     }
     if call == 0x13 {
         return timed(t, timers::get(t, r.n0), call, out, at);
     }
     if call == 0x14 {
-        return timed(t, timers::next_timeout(t), call, out, at);
+        let a = timers::next_timeout(t);
+        if same_time(a, timers_by_lending::next_timeout(t)) {
+            return timed(t, a, call, out, at);
+        }
+        let p = text::put_text(out, at, b"the lent form differs\n");
+        return TimersLine { timers: t, at: p };
     }
     let a = timers::is_expired(t, r.n0, m);
     let p = text::put_head(out, at, call, a.refusal);

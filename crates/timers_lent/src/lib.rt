@@ -1,5 +1,6 @@
 // The timer table, lent in place: each function takes the value out, makes the published call by value, and puts the table that it answers back. On a refusal
-// that is the table as it was. For hosts: a caller in Rattle uses the calls by value, since a caller of these would be a proof by hand.
+// that is the table as it was. For hosts: a caller in Rattle uses the
+// calls by value, since a caller of these is a proof by hand; `timers_by_lending` has three, for the comparison of the two forms.
 ghost use mathlib.Core.List.{[]};
 ghost use mathlib.Core.Path.{_≡_};
 ghost use Rattle.timers.specs.Calls.{nextTimeoutCall, setCall, stopCall};
