@@ -41,9 +41,9 @@ below b x = not (from b x)
 abbrev pub clashes : Item → Item → Bool
 clashes x y = sameId (x .cid) (y .cid) || eqb (x .seq) (y .seq)
 
--- both absent, or both present with equal bytes: an absent token differs from every present one
+-- both are present, with equal bytes: an absent token differs from the one that a frame brings
 abbrev pub sameToken : Option (List ℕ) → Option (List ℕ) → Bool
-sameToken a b = maybe a (not (present b)) (λ s. maybe b false (same s))
+sameToken a b = maybe a false (λ s. maybe b false (same s))
 
 -- ID, sequence and token are all equal
 abbrev pub repeats : Item → Item → Bool

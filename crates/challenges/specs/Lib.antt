@@ -1,0 +1,3 @@
+pub mod Challenges
+pub mod Laws
+pub mod Examples

@@ -1,0 +1,28 @@
+-- The state's test chooses between what it holds and refusal 1.
+use mathlib.Core.Path.{_∙_}
+use mathlib.Core.Bool.{true, false}
+use borrow.Author.Needs.{needs}
+use Rattle.ids_rules.specs.Calls.{reply, ZeroLengthScid}
+use Rattle.ids.specs.Reading.{view, flaggedAt, flaggedOf}
+use Rattle.ids.specs.CallLaws.{chosen, state-test}
+use Rattle.ids.proofs.calls.zero_length_scid.Statement.{statement}
+use Rattle.ids.proofs.calls.zero_length_scid.Tie as tie
+
+formed-requires : tie.Need-formed-requires
+formed-requires c κs = search needs
+
+no-flag-requires : tie.Need-no-flag-requires
+no-flag-requires c κs = search needs
+
+returns : tie.Need-returns
+returns c =
+    let a = c .before .before .args in
+    chosen (a .s) true (flaggedOf (reply (view (a .s)) ZeroLengthScid)) (flaggedAt 1 false) true (state-test (a .s) _ (c .before .formed .ensures) true (c .if1 .taken))
+
+returns-2 : tie.Need-returns-2
+returns-2 c =
+    let a = c .before .before .before .args in
+    c .no-flag .ensures ∙ chosen (a .s) true (flaggedOf (reply (view (a .s)) ZeroLengthScid)) (flaggedAt 1 false) false (state-test (a .s) _ (c .before .before .formed .ensures) false (c .before .if1 .left))
+
+pub zero-length-scid-spec : {M : Type 1} → statement M
+zero-length-scid-spec = tie.close (tie.spec formed-requires no-flag-requires returns returns-2)

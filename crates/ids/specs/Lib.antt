@@ -1,0 +1,13 @@
+pub mod Reading
+pub mod ReadingLaws
+pub mod WellLaws
+pub mod Carry
+pub mod Puts
+pub mod MarkLaws
+pub mod ReadLaws
+pub mod StartLaws
+pub mod AddWays
+pub mod AddLaws
+pub mod IssueLaws
+pub mod CallLaws
+pub mod Lift

@@ -1,0 +1,96 @@
+-- The marks: each way through the definition, on a well-formed state, as the code makes it.
+use Prim.Native.Nat.{ℕ}
+use mathlib.Core.Path.{_≡_, refl, sym, ap, ap₂, _∙_}
+use mathlib.Core.Bool.{Bool, true, false, cond, _&&_}
+use mathlib.Core.Option.{none, some}
+use lib.Dec.{leb}
+use lib.ListN.{length, set, getD}
+use Rattle.lists.specs.Defs.{pairwise, firstWith}
+use Rattle.values.specs.Limits.{queueSlots}
+use Rattle.ids_rules.specs.Values.{hasSeq}
+use Rattle.ids_rules.specs.View.{withScids, withDcids, withAdvertise, withRetire, Out, refused, accepted, Nothing}
+use Rattle.ids_rules.specs.Steps.{marked, used, markScidUsed, markDcidUsed, markScidToAdvertise, markDcidToRetire}
+use Rattle.tables.specs.Table.{zeroItem, live, entries, tableOf, queueOf}
+use Rattle.tables.specs.declared.sequences.Queue.{Queue}
+use Rattle.tables.specs.declared.items.Table.{Table}
+use Rattle.ids_state.specs.Formed.{wellFormed}
+use Rattle.ids_state.specs.Laws.{facts}
+use Rattle.ids_state.specs.declared.state.Ids.{Ids}
+use Rattle.ids.specs.Reading.{itemView, view, doneAt, doneOf}
+use Rattle.ids.specs.ReadingLaws.{scids-back, dcids-back, advertise-long, retire-long, view-is}
+use Rattle.ids.specs.Carry.{any-at, any-none, seqsApart, apart-seqs, rising-seqs, used-back}
+use Rattle.ids.specs.Puts.{putSource, putDestination, putAdvertise, putRetire}
+use Rattle.tables.specs.Table as T
+
+module _ (s : Ids) (w : wellFormed s ≡ true) where
+  -- nothing changed
+  pub stays : (n : ℕ) (o : Out) → o ≡ refused n (view s) → doneAt n s ≡ doneOf o
+  stays n o e = ap (doneAt n) (sym (view-is s w)) ∙ sym (ap doneOf e)
+
+  -- ---- the queues
+
+  module _ (seq : ℕ) (on : Bool) where
+    advertise-test : (on && leb queueSlots (length (view s .advertise))) ≡ (on && leb queueSlots (s .advertise .count))
+    advertise-test = ap (λ (n : ℕ). on && leb queueSlots n) (advertise-long s w)
+
+    abbrev advertiseAt : Bool → Out
+    advertiseAt b = cond b (refused 6 (view s)) (accepted Nothing (withAdvertise (marked seq on (view s .advertise)) (view s)))
+
+    pub advertise-6 : (on && leb queueSlots (s .advertise .count)) ≡ true → doneAt 6 s ≡ doneOf (markScidToAdvertise seq on (view s))
+    advertise-6 t = stays 6 (markScidToAdvertise seq on (view s)) (ap advertiseAt (advertise-test ∙ t))
+
+    pub advertise-0 : (on && leb queueSlots (s .advertise .count)) ≡ false → (q : Queue) → q ≡ queueOf (marked seq on (entries (s .advertise)))
+        → doneAt 0 (putAdvertise q s) ≡ doneOf (markScidToAdvertise seq on (view s))
+    advertise-0 t q e =
+        ap₂ (λ (x : Queue) (u : Ids). doneAt 0 (putAdvertise x u)) e (sym (view-is s w))
+        ∙ sym (ap (λ (b : Bool). doneOf (advertiseAt b)) (advertise-test ∙ t))
+
+    retire-test : (on && leb queueSlots (length (view s .retire))) ≡ (on && leb queueSlots (s .retire .count))
+    retire-test = ap (λ (n : ℕ). on && leb queueSlots n) (retire-long s w)
+
+    abbrev retireAt : Bool → Out
+    retireAt b = cond b (refused 6 (view s)) (accepted Nothing (withRetire (marked seq on (view s .retire)) (view s)))
+
+    pub retire-6 : (on && leb queueSlots (s .retire .count)) ≡ true → doneAt 6 s ≡ doneOf (markDcidToRetire seq on (view s))
+    retire-6 t = stays 6 (markDcidToRetire seq on (view s)) (ap retireAt (retire-test ∙ t))
+
+    pub retire-0 : (on && leb queueSlots (s .retire .count)) ≡ false → (q : Queue) → q ≡ queueOf (marked seq on (entries (s .retire)))
+        → doneAt 0 (putRetire q s) ≡ doneOf (markDcidToRetire seq on (view s))
+    retire-0 t q e =
+        ap₂ (λ (x : Queue) (u : Ids). doneAt 0 (putRetire x u)) e (sym (view-is s w))
+        ∙ sym (ap (λ (b : Bool). doneOf (retireAt b)) (retire-test ∙ t))
+
+  -- ---- no two items of a table have the same sequence
+
+  pub scids-apart : pairwise seqsApart (live (s .source)) ≡ true
+  scids-apart = rising-seqs (s .next) (live (s .source)) (facts s w .rises)
+
+  pub dcids-apart : pairwise seqsApart (live (s .destination)) ≡ true
+  dcids-apart = apart-seqs (live (s .destination)) (facts s w .distinct)
+
+  -- ---- the paths
+
+  module _ (seq path : ℕ) where
+    abbrev scidAt : Bool → Out
+    scidAt b = cond b (accepted Nothing (withScids (used seq path (view s .scids)) (view s))) (refused 2 (view s))
+
+    pub scid-used-2 : firstWith (T.hasSeq seq) (live (s .source)) ≡ none → doneAt 2 s ≡ doneOf (markScidUsed seq path (view s))
+    scid-used-2 e = stays 2 (markScidUsed seq path (view s)) (ap scidAt (any-none itemView (hasSeq seq) (T.hasSeq seq) (λ x. refl) (live (s .source)) e))
+
+    pub scid-used-0 : (i : ℕ) → firstWith (T.hasSeq seq) (live (s .source)) ≡ some i → (t : Table) → t ≡ tableOf (set (live (s .source)) i (T.onPath path (getD (live (s .source)) i zeroItem)))
+        → doneAt 0 (putSource t s) ≡ doneOf (markScidUsed seq path (view s))
+    scid-used-0 i p t e =
+        ap₂ (λ (x : Table) (u : Ids). doneAt 0 (putSource x u)) (e ∙ ap tableOf (sym (used-back (view s .scids) (live (s .source)) (scids-back s w) seq i p scids-apart path))) (sym (view-is s w))
+        ∙ sym (ap (λ (b : Bool). doneOf (scidAt b)) (any-at itemView (hasSeq seq) (T.hasSeq seq) (λ x. refl) (live (s .source)) i p))
+
+    abbrev dcidAt : Bool → Out
+    dcidAt b = cond b (accepted Nothing (withDcids (used seq path (view s .dcids)) (view s))) (refused 2 (view s))
+
+    pub dcid-used-2 : firstWith (T.hasSeq seq) (live (s .destination)) ≡ none → doneAt 2 s ≡ doneOf (markDcidUsed seq path (view s))
+    dcid-used-2 e = stays 2 (markDcidUsed seq path (view s)) (ap dcidAt (any-none itemView (hasSeq seq) (T.hasSeq seq) (λ x. refl) (live (s .destination)) e))
+
+    pub dcid-used-0 : (i : ℕ) → firstWith (T.hasSeq seq) (live (s .destination)) ≡ some i → (t : Table) → t ≡ tableOf (set (live (s .destination)) i (T.onPath path (getD (live (s .destination)) i zeroItem)))
+        → doneAt 0 (putDestination t s) ≡ doneOf (markDcidUsed seq path (view s))
+    dcid-used-0 i p t e =
+        ap₂ (λ (x : Table) (u : Ids). doneAt 0 (putDestination x u)) (e ∙ ap tableOf (sym (used-back (view s .dcids) (live (s .destination)) (dcids-back s w) seq i p dcids-apart path))) (sym (view-is s w))
+        ∙ sym (ap (λ (b : Bool). doneOf (dcidAt b)) (any-at itemView (hasSeq seq) (T.hasSeq seq) (λ x. refl) (live (s .destination)) i p))

@@ -1,0 +1,180 @@
+-- Reading and building are inverse: a well-formed state is the one that its view stands for, and every view is the view of its state.
+use Prim.Native.Nat.{ℕ}
+use mathlib.Core.Path.{_≡_, refl, sym, ap, ap₂, _∙_}
+use mathlib.Core.List.{List, [], _∷_, _++_, map}
+use mathlib.Core.Bool.{Bool, true, false, _||_}
+use mathlib.Core.Option.{Option, none, some}
+use native.Mathlib.Omega.{arith}
+use lib.ListN.{length, length-map}
+use Rattle.lists.specs.Defs.{present, given, nought, all, past}
+use Rattle.lists.specs.Bools.{conj-each}
+use Rattle.lists.specs.Tests.{nought-is}
+use Rattle.lists.specs.Held.{take-padded}
+use Rattle.lists.specs.Maps.{map-is}
+use Rattle.values.specs.Limits.{tokenLen, tableSlots, queueSlots}
+use Rattle.values.specs.Cid.{idFormed}
+use Rattle.values.specs.Token.{tokenFormed, tokenView}
+use Rattle.values.specs.declared.token.Token.{Token}
+use Rattle.ids_rules.specs.Values.{Item}
+use Rattle.ids_rules.specs.View.{View, Out}
+use Rattle.tables.specs.Table.{zeroItem, live, entries, tableOf, queueOf, TableWell, QueueWell}
+use Rattle.tables.specs.Laws.{entries-long, queue-is, live-long, table-is}
+use Rattle.ids_state.specs.Formed.{wellFormed}
+use Rattle.ids_state.specs.Laws.{zeros-is, Facts, facts}
+use Rattle.ids_state.specs.declared.state.Ids.{Ids}
+use Rattle.ids.specs.Reading.{itemView, view, tokenOf, pathOf, itemOf, idsOf, pathFormed, doneOf, issuedOf, freedOf, retiredOf}
+use Rattle.tables.specs.declared.items.Item as I
+use Rattle.ids_state.specs.Formed as F
+
+-- ---- one item
+
+pub token-back : (t : Token) → tokenFormed t ≡ true → tokenOf (tokenView t) ≡ t
+token-back t e = go (t .present) refl e
+  where
+    go : (b : Bool) → t .present ≡ b → (b || past nought tokenLen 0 (t .bytes)) ≡ true → tokenOf (given b (t .bytes)) ≡ t
+    go true p q = λ i. record { bytes = t .bytes; present = sym p i }
+    go false p q = λ i. record { bytes = sym (zeros-is tokenLen (t .bytes) q) i; present = sym p i }
+
+pub path-back : (b : Bool) (p : ℕ) → pathFormed b p ≡ true → pathOf (given b p) ≡ p
+path-back true p e = refl
+path-back false p e = sym (nought-is p e)
+
+pub present-given : {A : Type 0} (b : Bool) (a : A) → present (given b a) ≡ b
+present-given true a = refl
+present-given false a = refl
+
+pub item-parts : (x : I.Item) → F.itemFormed x ≡ true → (idFormed (x .cid) ≡ true) × (tokenFormed (x .token) ≡ true) × (pathFormed (x .«has_path») (x .path) ≡ true) × ((x .token .present || nought (x .seq)) ≡ true)
+item-parts x e =
+    let w = conj-each (idFormed (x .cid)) (tokenFormed (x .token) ∷ pathFormed (x .«has_path») (x .path) ∷ (x .token .present || nought (x .seq)) ∷ []) e in
+    (w .0, w .1 .0, w .1 .1 .0, w .1 .1 .1 .0)
+
+-- what the reading of an item keeps: its token and its path have their form
+pub item-is : (x : I.Item) → tokenFormed (x .token) ≡ true → pathFormed (x .«has_path») (x .path) ≡ true → itemOf (itemView x) ≡ x
+item-is x t p =
+    λ i. record { seq = x .seq; path = path-back (x .«has_path») (x .path) p i; cid = x .cid; token = token-back (x .token) t i; «has_path» = present-given (x .«has_path») (x .path) i }
+
+pub item-back : (x : I.Item) → F.itemFormed x ≡ true → itemOf (itemView x) ≡ x
+item-back x e = let w = item-parts x e in item-is x (w .1) (w .2)
+
+pub items-back : (l : List I.Item) → all F.itemFormed l ≡ true → map itemOf (map itemView l) ≡ l
+items-back l e = map-is F.itemFormed itemView itemOf item-back l e
+
+token-round : (o : Option (List ℕ)) → tokenView (tokenOf o) ≡ o
+token-round none = refl
+token-round (some b) = refl
+
+path-round : (o : Option ℕ) → given (present o) (pathOf o) ≡ o
+path-round none = refl
+path-round (some p) = refl
+
+pub item-round : (x : Item) → itemView (itemOf x) ≡ x
+item-round x = λ i. record { cid = x .cid; seq = x .seq; token = token-round (x .token) i; path = path-round (x .path) i }
+
+items-round : (l : List Item) → map itemView (map itemOf l) ≡ l
+items-round [] = refl
+items-round (x ∷ l) = ap₂ (λ (y : Item) (r : List Item). y ∷ r) (item-round x) (items-round l)
+
+table-round : (l : List Item) → map itemView (live (tableOf (map itemOf l))) ≡ l
+table-round l = ap (map itemView) (take-padded tableSlots zeroItem (map itemOf l)) ∙ items-round l
+
+-- one more item at the end
+pub snoc-back : (m : List Item) (l : List I.Item) (y : Item) (x : I.Item) → map itemOf m ≡ l → itemOf y ≡ x → map itemOf (m ++ (y ∷ [])) ≡ l ++ (x ∷ [])
+snoc-back m l y x e q = go m ∙ ap₂ (λ (a : List I.Item) (z : I.Item). a ++ (z ∷ [])) e q
+  where
+    go : (m : List Item) → map itemOf (m ++ (y ∷ [])) ≡ map itemOf m ++ (itemOf y ∷ [])
+    go [] = refl
+    go (z ∷ m) = ap (λ (r : List I.Item). itemOf z ∷ r) (go m)
+
+-- ---- the state
+
+pub view-of : (v : View) → view (idsOf v) ≡ v
+view-of v = λ i. record {
+  scids = table-round (v .scids) i;
+  dcids = table-round (v .dcids) i;
+  dlimit = v .dlimit;
+  slimit = v .slimit;
+  scap = v .scap;
+  zeroScid = v .zeroScid;
+  zeroDcid = v .zeroDcid;
+  next = v .next;
+  rpt = v .rpt;
+  largest = v .largest;
+  advertise = take-padded queueSlots 0 (v .advertise) i;
+  retire = take-padded queueSlots 0 (v .retire) i;
+}
+
+module _ (s : Ids) (w : wellFormed s ≡ true) where
+  f : Facts s
+  f = facts s w
+
+  pub source-well : TableWell (s .source)
+  source-well = record { few = omega (arith, f .bounds .sources-few, f .bounds .capacity-most); is = f .source-is }
+
+  pub destination-well : TableWell (s .destination)
+  destination-well = record { few = omega (arith, f .bounds .destinations-few, f .bounds .dlimit-most); is = f .destination-is }
+
+  pub advertise-well : QueueWell (s .advertise)
+  advertise-well = record { few = f .bounds .advertised-few; is = f .advertise-is }
+
+  pub retire-well : QueueWell (s .retire)
+  retire-well = record { few = f .bounds .retired-few; is = f .retire-is }
+
+  pub scids-back : map itemOf (view s .scids) ≡ live (s .source)
+  scids-back = items-back (live (s .source)) (f .source-items)
+
+  pub dcids-back : map itemOf (view s .dcids) ≡ live (s .destination)
+  dcids-back = items-back (live (s .destination)) (f .destination-items)
+
+  pub scids-long : length (view s .scids) ≡ s .source .count
+  scids-long = length-map (live (s .source)) itemView ∙ live-long (s .source) source-well
+
+  pub dcids-long : length (view s .dcids) ≡ s .destination .count
+  dcids-long = length-map (live (s .destination)) itemView ∙ live-long (s .destination) destination-well
+
+  pub advertise-long : length (view s .advertise) ≡ s .advertise .count
+  advertise-long = entries-long (s .advertise) advertise-well
+
+  pub retire-long : length (view s .retire) ≡ s .retire .count
+  retire-long = entries-long (s .retire) retire-well
+
+  source-back : tableOf (map itemOf (view s .scids)) ≡ s .source
+  source-back = ap tableOf scids-back ∙ table-is (s .source) source-well
+
+  destination-back : tableOf (map itemOf (view s .dcids)) ≡ s .destination
+  destination-back = ap tableOf dcids-back ∙ table-is (s .destination) destination-well
+
+  advertise-back : queueOf (entries (s .advertise)) ≡ s .advertise
+  advertise-back = queue-is (s .advertise) advertise-well
+
+  retire-back : queueOf (entries (s .retire)) ≡ s .retire
+  retire-back = queue-is (s .retire) retire-well
+
+  pub view-is : idsOf (view s) ≡ s
+  view-is = λ i. record {
+    source = source-back i;
+    destination = destination-back i;
+    capacity = s .capacity;
+    dlimit = s .dlimit;
+    slimit = s .slimit;
+    «zero_source» = s .«zero_source»;
+    «zero_destination» = s .«zero_destination»;
+    next = s .next;
+    rpt = s .rpt;
+    largest = s .largest;
+    advertise = advertise-back i;
+    retire = retire-back i;
+  }
+
+-- ---- what a call gives, read again, is the outcome's view
+
+pub done-view : (o : Out) → view (doneOf o .ids) ≡ o .view
+done-view o = view-of (o .view)
+
+pub issued-view : (o : Out) → view (issuedOf o .ids) ≡ o .view
+issued-view o = view-of (o .view)
+
+pub freed-view : (o : Out) → view (freedOf o .ids) ≡ o .view
+freed-view o = view-of (o .view)
+
+pub retired-view : (o : Out) → view (retiredOf o .ids) ≡ o .view
+retired-view o = view-of (o .view)

@@ -1,0 +1,68 @@
+// What the calls give beside the plain answers of `values`. An answer begins with the refusal's number, and on a refusal every other field is zero.
+use ids_state::Ids;
+use tables::Item;
+use tables::Used;
+use values::ConnectionId;
+use values::Counted;
+use values::Done;
+use values::Numbered;
+
+// An item, or none: then it is zero.
+#[repr(C)]
+pub struct ItemAnswer {
+    pub refusal: u8,
+    pub present: bool,
+    pub item: Item,
+}
+
+// A sequence with its optional path, or none: then all are zero.
+#[repr(C)]
+pub struct FoundAnswer {
+    pub refusal: u8,
+    pub present: bool,
+    pub has_path: bool,
+    pub seq: u64,
+    pub path: u64,
+}
+
+// The fields of a NEW_CONNECTION_ID frame (RFC 9000, 19.15).
+#[repr(C)]
+pub struct FrameAnswer {
+    pub refusal: u8,
+    pub seq: u64,
+    pub retire_prior_to: u64,
+    pub cid: ConnectionId,
+    pub token: [u8; 16],
+}
+
+// The sequences that left the table while a path used them.
+#[repr(C)]
+pub struct RetiredAnswer {
+    pub refusal: u8,
+    pub used: Used,
+}
+
+// What a call that changes the state gives: the state first, which saves a lent caller a copy.
+#[repr(C)]
+pub struct DoneOut {
+    pub ids: Ids,
+    pub answer: Done,
+}
+
+#[repr(C)]
+pub struct IssuedOut {
+    pub ids: Ids,
+    pub answer: Counted,
+}
+
+#[repr(C)]
+pub struct FreedOut {
+    pub ids: Ids,
+    pub answer: Numbered,
+}
+
+#[repr(C)]
+pub struct RetiredOut {
+    pub ids: Ids,
+    pub answer: RetiredAnswer,
+}

@@ -1,0 +1,378 @@
+// The published calls, in the order of the Rust's ConnectionIdMgr. Each tests the state and its arguments first: what is not of its form is refused with 1,
+// and the state comes back as it was. docs/RULES.md, "Source IDs", "Destination IDs" and "Marks, queues and lookups", has the steps after that.
+ghost use mathlib.Core.Path.{_≡_};
+ghost use mathlib.Core.Bool.{true, _&&_};
+ghost use Rattle.lists.specs.Defs.{given};
+ghost use Rattle.values.specs.Cid.{idFormed};
+ghost use Rattle.values.specs.Token.{tokenFormed, tokenView};
+ghost use Rattle.ids_rules.specs.Calls as C;
+ghost use Rattle.ids.specs.Reading.{countedCall, doneCall, flaggedCall, foundCall, frameCall, freedCall, freshIds, issuedCall, itemCall, numberedCall, pathFormed, retiredCall};
+use crate::adds;
+use crate::answers::DoneOut;
+use crate::answers::FoundAnswer;
+use crate::answers::FrameAnswer;
+use crate::answers::FreedOut;
+use crate::answers::IssuedOut;
+use crate::answers::ItemAnswer;
+use crate::answers::RetiredOut;
+use crate::issues;
+use crate::marks;
+use crate::reads;
+use crate::starts;
+use ids_state::Ids;
+use values::ConnectionId;
+use values::Counted;
+use values::Flagged;
+use values::Numbered;
+use values::Token;
+use values::limits::MAX_DCID_LIMIT;
+use values::refusals::ACCEPTED;
+use values::refusals::MALFORMED;
+
+// One source ID, with sequence 0, on its path. A refused call gives the all-zero state.
+pub fn fresh(dlimit: u64, cid: ConnectionId, path: u64, token: Token) -> DoneOut
+    ensures { λ r. ⌜ r ≡ freshIds dlimit cid path token ⌝ }
+{
+    let c = values::cid_formed(cid);
+    let k = values::token_formed(token);
+    let ok = k & ((1 <= dlimit) & (dlimit <= MAX_DCID_LIMIT) & c);
+    if ok {
+        let s = starts::first_state(dlimit, cid, path, token);
+        return marks::done(s, ACCEPTED);
+    }
+    let z = starts::zero_state();
+    marks::done(z, MALFORMED)
+}
+
+// The destination table holds the ID alone, with sequence 0.
+pub fn set_initial_dcid(s: Ids, cid: ConnectionId, token: Token, has: bool, path: u64) -> DoneOut
+    ensures { λ r. ⌜ r ≡ doneCall s (idFormed cid && tokenFormed token && pathFormed has path) (C.SetInitialDcid cid (tokenView token) (given has path)) ⌝ }
+{
+    let f = ids_state::formed(s);
+    let c = values::cid_formed(cid);
+    let k = values::token_formed(token);
+    let args = c & k & (has | (path == 0));
+    if f & args {
+        starts::initial_step(s, cid, token, has, path)
+    } else {
+        marks::done(s, MALFORMED)
+    }
+}
+
+// The most source IDs that the peer allows, clamped to 2..16.
+pub fn set_scid_limit(s: Ids, n: u64) -> DoneOut
+    ensures { λ r. ⌜ r ≡ doneCall s true (C.SetScidLimit n) ⌝ }
+{
+    if ids_state::formed(s) {
+        starts::limit_step(s, n)
+    } else {
+        marks::done(s, MALFORMED)
+    }
+}
+
+// The source item with the sequence.
+pub fn get_scid(s: Ids, seq: u64) -> ItemAnswer
+    ensures { λ r. ⌜ r ≡ itemCall s (C.GetScid seq) ⌝ }
+{
+    if ids_state::formed(s) {
+        let t = s.source;
+        reads::get(t, seq)
+    } else {
+        reads::no_item(MALFORMED)
+    }
+}
+
+// The destination item with the sequence.
+pub fn get_dcid(s: Ids, seq: u64) -> ItemAnswer
+    ensures { λ r. ⌜ r ≡ itemCall s (C.GetDcid seq) ⌝ }
+{
+    if ids_state::formed(s) {
+        let t = s.destination;
+        reads::get(t, seq)
+    } else {
+        reads::no_item(MALFORMED)
+    }
+}
+
+// The sequence and the path of the first source item with the ID.
+pub fn find_scid(s: Ids, cid: ConnectionId) -> FoundAnswer
+    ensures { λ r. ⌜ r ≡ foundCall s (idFormed cid) (C.FindScid cid) ⌝ }
+{
+    let f = ids_state::formed(s);
+    let c = values::cid_formed(cid);
+    if f & c {
+        let t = s.source;
+        reads::find(t, cid)
+    } else {
+        reads::not_found(MALFORMED)
+    }
+}
+
+// The source item is used by the path.
+pub fn mark_scid_used(s: Ids, seq: u64, path: u64) -> DoneOut
+    ensures { λ r. ⌜ r ≡ doneCall s true (C.MarkScidUsed seq path) ⌝ }
+{
+    if ids_state::formed(s) {
+        marks::scid_used_step(s, seq, path)
+    } else {
+        marks::done(s, MALFORMED)
+    }
+}
+
+// The destination item is used by the path.
+pub fn mark_dcid_used(s: Ids, seq: u64, path: u64) -> DoneOut
+    ensures { λ r. ⌜ r ≡ doneCall s true (C.MarkDcidUsed seq path) ⌝ }
+{
+    if ids_state::formed(s) {
+        marks::dcid_used_step(s, seq, path)
+    } else {
+        marks::done(s, MALFORMED)
+    }
+}
+
+// How many source IDs no path uses.
+pub fn unused_scids(s: Ids) -> Counted
+    ensures { λ r. ⌜ r ≡ countedCall s C.UnusedScids ⌝ }
+{
+    if ids_state::formed(s) {
+        let t = s.source;
+        reads::free(t)
+    } else {
+        reads::no_count(MALFORMED)
+    }
+}
+
+// How many destination IDs no path uses: none where they have zero length.
+pub fn unused_dcids(s: Ids) -> Counted
+    ensures { λ r. ⌜ r ≡ countedCall s C.UnusedDcids ⌝ }
+{
+    if ids_state::formed(s) {
+        if s.zero_destination {
+            return reads::no_count(ACCEPTED);
+        }
+        let t = s.destination;
+        reads::free(t)
+    } else {
+        reads::no_count(MALFORMED)
+    }
+}
+
+// The lowest destination sequence that no path uses.
+pub fn lowest_unused_dcid_seq(s: Ids) -> Numbered
+    ensures { λ r. ⌜ r ≡ numberedCall s C.LowestUnusedDcidSeq ⌝ }
+{
+    if ids_state::formed(s) {
+        let t = s.destination;
+        reads::lowest(t)
+    } else {
+        reads::no_number(MALFORMED)
+    }
+}
+
+// A new source ID, at the end of the table: the answer is its sequence.
+pub fn add_scid(
+    s: Ids,
+    cid: ConnectionId,
+    token: Token,
+    advertise: bool,
+    has: bool,
+    path: u64,
+    leave: bool,
+) -> IssuedOut
+    ensures { λ r. ⌜ r ≡ issuedCall s (idFormed cid && tokenFormed token && pathFormed has path) (C.AddScid cid (tokenView token) advertise (given has path) leave) ⌝ }
+{
+    let f = ids_state::formed(s);
+    let c = values::cid_formed(cid);
+    let k = values::token_formed(token);
+    let args = c & k & (has | (path == 0));
+    if f & args {
+        issues::add_scid_step(s, cid, token, advertise, has, path, leave)
+    } else {
+        issues::none_issued(s, MALFORMED)
+    }
+}
+
+// A NEW_CONNECTION_ID frame: the answer is what it retired of the IDs in use.
+pub fn add_dcid(
+    s: Ids,
+    cid: ConnectionId,
+    seq: u64,
+    token: [u8; 16],
+    retire_prior_to: u64,
+) -> RetiredOut
+    ensures { λ r. ⌜ r ≡ retiredCall s (idFormed cid) (C.AddDcid cid seq token «retire_prior_to») ⌝ }
+{
+    let f = ids_state::formed(s);
+    let c = values::cid_formed(cid);
+    if f & c {
+        adds::add_dcid_step(s, cid, seq, token, retire_prior_to)
+    } else {
+        adds::no_pairs(s, MALFORMED)
+    }
+}
+
+// A RETIRE_CONNECTION_ID frame: the answer is the path that used the ID.
+pub fn retire_scid(s: Ids, seq: u64, packet: ConnectionId) -> FreedOut
+    ensures { λ r. ⌜ r ≡ freedCall s (idFormed packet) (C.RetireScid seq packet) ⌝ }
+{
+    let f = ids_state::formed(s);
+    let c = values::cid_formed(packet);
+    if f & c {
+        issues::retire_scid_step(s, seq, packet)
+    } else {
+        issues::none_freed(s, MALFORMED)
+    }
+}
+
+// The source sequence is to be announced, or no longer.
+pub fn mark_scid_to_advertise(s: Ids, seq: u64, on: bool) -> DoneOut
+    ensures { λ r. ⌜ r ≡ doneCall s true (C.MarkScidToAdvertise seq on) ⌝ }
+{
+    if ids_state::formed(s) {
+        marks::advertise_step(s, seq, on)
+    } else {
+        marks::done(s, MALFORMED)
+    }
+}
+
+// The destination sequence is to be retired, or no longer.
+pub fn mark_dcid_to_retire(s: Ids, seq: u64, on: bool) -> DoneOut
+    ensures { λ r. ⌜ r ≡ doneCall s true (C.MarkDcidToRetire seq on) ⌝ }
+{
+    if ids_state::formed(s) {
+        marks::to_retire_step(s, seq, on)
+    } else {
+        marks::done(s, MALFORMED)
+    }
+}
+
+// The source sequence that is to be announced next.
+pub fn next_scid_to_advertise(s: Ids) -> Numbered
+    ensures { λ r. ⌜ r ≡ numberedCall s C.NextScidToAdvertise ⌝ }
+{
+    if ids_state::formed(s) {
+        let q = s.advertise;
+        reads::next(q)
+    } else {
+        reads::no_number(MALFORMED)
+    }
+}
+
+// The destination sequence that is to be retired next.
+pub fn next_dcid_to_retire(s: Ids) -> Numbered
+    ensures { λ r. ⌜ r ≡ numberedCall s C.NextDcidToRetire ⌝ }
+{
+    if ids_state::formed(s) {
+        let q = s.retire;
+        reads::next(q)
+    } else {
+        reads::no_number(MALFORMED)
+    }
+}
+
+// The frame that announces the source ID.
+pub fn create_new_connection_id_frame(s: Ids, seq: u64) -> FrameAnswer
+    ensures { λ r. ⌜ r ≡ frameCall s (C.CreateNewConnectionIdFrame seq) ⌝ }
+{
+    if ids_state::formed(s) {
+        let t = s.source;
+        reads::frame(t, s.rpt, seq)
+    } else {
+        reads::no_frame(MALFORMED)
+    }
+}
+
+// Whether one of the queues has an entry.
+pub fn need_send_cid_control_frames(s: Ids) -> Flagged
+    ensures { λ r. ⌜ r ≡ flaggedCall s C.NeedSendCidControlFrames ⌝ }
+{
+    if ids_state::formed(s) {
+        let q = s.retire;
+        let a = s.advertise;
+        Flagged {
+            refusal: ACCEPTED,
+            flag: (q.count != 0) | (a.count != 0),
+        }
+    } else {
+        reads::no_flag(MALFORMED)
+    }
+}
+
+// Whether our first source ID was empty.
+pub fn zero_length_scid(s: Ids) -> Flagged
+    ensures { λ r. ⌜ r ≡ flaggedCall s C.ZeroLengthScid ⌝ }
+{
+    if ids_state::formed(s) {
+        Flagged {
+            refusal: ACCEPTED,
+            flag: s.zero_source,
+        }
+    } else {
+        reads::no_flag(MALFORMED)
+    }
+}
+
+// Whether the first destination ID was empty.
+pub fn zero_length_dcid(s: Ids) -> Flagged
+    ensures { λ r. ⌜ r ≡ flaggedCall s C.ZeroLengthDcid ⌝ }
+{
+    if ids_state::formed(s) {
+        Flagged {
+            refusal: ACCEPTED,
+            flag: s.zero_destination,
+        }
+    } else {
+        reads::no_flag(MALFORMED)
+    }
+}
+
+// In place of the Rust's iterators: the count of each table, and the item at a place.
+pub fn scid_count(s: Ids) -> Counted
+    ensures { λ r. ⌜ r ≡ countedCall s C.ScidCount ⌝ }
+{
+    if ids_state::formed(s) {
+        let t = s.source;
+        Counted {
+            refusal: ACCEPTED,
+            number: t.count as u64,
+        }
+    } else {
+        reads::no_count(MALFORMED)
+    }
+}
+
+pub fn scid_at(s: Ids, place: u64) -> ItemAnswer
+    ensures { λ r. ⌜ r ≡ itemCall s (C.ScidAt place) ⌝ }
+{
+    if ids_state::formed(s) {
+        let t = s.source;
+        reads::item_at(t, place)
+    } else {
+        reads::no_item(MALFORMED)
+    }
+}
+
+pub fn dcid_count(s: Ids) -> Counted
+    ensures { λ r. ⌜ r ≡ countedCall s C.DcidCount ⌝ }
+{
+    if ids_state::formed(s) {
+        let t = s.destination;
+        Counted {
+            refusal: ACCEPTED,
+            number: t.count as u64,
+        }
+    } else {
+        reads::no_count(MALFORMED)
+    }
+}
+
+pub fn dcid_at(s: Ids, place: u64) -> ItemAnswer
+    ensures { λ r. ⌜ r ≡ itemCall s (C.DcidAt place) ⌝ }
+{
+    if ids_state::formed(s) {
+        let t = s.destination;
+        reads::item_at(t, place)
+    } else {
+        reads::no_item(MALFORMED)
+    }
+}

@@ -1,0 +1,44 @@
+// The connection IDs of a QUIC endpoint, after the Rust's cid.rs. calls.rt has the published calls; what a call does to a well-formed state stands in the
+// modules beside it. Every contract is an equation with the definition of `ids_rules` on the view of the state (specs/Reading.antt).
+mod adds;
+mod answers;
+mod calls;
+mod issues;
+mod marks;
+mod reads;
+mod starts;
+
+pub use answers::DoneOut;
+pub use answers::FoundAnswer;
+pub use answers::FrameAnswer;
+pub use answers::FreedOut;
+pub use answers::IssuedOut;
+pub use answers::ItemAnswer;
+pub use answers::RetiredAnswer;
+pub use answers::RetiredOut;
+pub use calls::add_dcid;
+pub use calls::add_scid;
+pub use calls::create_new_connection_id_frame;
+pub use calls::dcid_at;
+pub use calls::dcid_count;
+pub use calls::find_scid;
+pub use calls::fresh;
+pub use calls::get_dcid;
+pub use calls::get_scid;
+pub use calls::lowest_unused_dcid_seq;
+pub use calls::mark_dcid_to_retire;
+pub use calls::mark_dcid_used;
+pub use calls::mark_scid_to_advertise;
+pub use calls::mark_scid_used;
+pub use calls::need_send_cid_control_frames;
+pub use calls::next_dcid_to_retire;
+pub use calls::next_scid_to_advertise;
+pub use calls::retire_scid;
+pub use calls::scid_at;
+pub use calls::scid_count;
+pub use calls::set_initial_dcid;
+pub use calls::set_scid_limit;
+pub use calls::unused_dcids;
+pub use calls::unused_scids;
+pub use calls::zero_length_dcid;
+pub use calls::zero_length_scid;

@@ -1,0 +1,78 @@
+-- docs/RULES.md, "Well-formed IDs": the sixteen conjuncts, by their numbers there. (Of conjunct 1, the destination capacity is no field of the state.)
+use Prim.Native.Nat.{ℕ, _-_, _*_, _%_}
+use mathlib.Core.List.{List, [], _∷_, _++_, map}
+use mathlib.Core.Bool.{Bool, not, _&&_, _||_}
+use lib.Dec.{eqb, leb, ltb}
+use Rattle.lists.specs.Defs.{nought, all, past, pairwise, rising}
+use Rattle.values.specs.Limits.{maxCidLen, tokenLen, maxDcidLimit, maxCidsCount, minScidLimit, tableSlots, queueSlots, maxSequence}
+use Rattle.values.specs.Cid.{idFormed, sameId}
+use Rattle.values.specs.Token.{tokenFormed}
+use Rattle.tables.specs.Table.{live, seqOf}
+use Rattle.tables.specs.declared.sequences.Queue.{Queue}
+use Rattle.tables.specs.declared.items.Item.{Item}
+use Rattle.tables.specs.declared.items.Table.{Table}
+use Rattle.ids_state.specs.declared.state.Ids.{Ids}
+
+-- 13: a length of at most 20, and zeros past it; 14: an absent token is zeros, an absent path is 0; 9: a token, but for sequence 0
+abbrev pub itemFormed : Item → Bool
+itemFormed x = idFormed (x .cid) && tokenFormed (x .token) && (x .«has_path» || nought (x .path)) && (x .token .present || nought (x .seq))
+
+-- the item is the zero item
+abbrev pub isZero : Item → Bool
+isZero x =
+    nought (x .seq)
+    && nought (x .path)
+    && nought (x .cid .len)
+    && past nought maxCidLen 0 (x .cid .bytes)
+    && past nought tokenLen 0 (x .token .bytes)
+    && not (x .token .present)
+    && not (x .«has_path»)
+
+-- 7, 8: neither the sequences nor the IDs are equal
+abbrev pub apart : Item → Item → Bool
+apart x y = not (eqb (x .seq) (y .seq)) && not (sameId (x .cid) (y .cid))
+
+-- 15: past the count stand zero items
+abbrev pub tailZero : Table → Bool
+tailZero t = past isZero tableSlots (t .count) (t .items)
+
+-- 5: the sequences strictly rise, the last below next
+abbrev pub seqsOf : Table → ℕ → List ℕ
+seqsOf t next = map seqOf (live t) ++ (next ∷ [])
+
+abbrev pub risingBelow : Table → ℕ → Bool
+risingBelow t next = rising (seqsOf t next)
+
+abbrev pub sourcesFormed : Table → ℕ → Bool
+sourcesFormed t next = all itemFormed (live t) && risingBelow t next && tailZero t
+
+abbrev pub destinationsFormed : Table → Bool
+destinationsFormed t = all itemFormed (live t) && pairwise apart (live t) && tailZero t
+
+-- 16: past the count stand zeros
+abbrev pub queueFormed : Queue → Bool
+queueFormed q = past nought queueSlots (q .count) (q .items)
+
+-- 1, 2, 3, 4, 6, 10, 11, 12
+abbrev pub bounded : (dlimit slimit capacity sources destinations next rpt advertised retired : ℕ) → Bool
+bounded dlimit slimit capacity sources destinations next rpt advertised retired =
+    leb 1 dlimit
+    && leb dlimit maxDcidLimit
+    && leb minScidLimit slimit
+    && leb slimit maxCidsCount
+    && eqb (capacity % 2) 1
+    && leb (2 * slimit - 1) capacity
+    && leb capacity tableSlots
+    && leb 1 sources
+    && leb sources capacity
+    && ltb destinations (2 * dlimit)
+    && leb 1 next
+    && leb next maxSequence
+    && leb rpt next
+    && leb advertised queueSlots
+    && leb retired queueSlots
+
+abbrev pub wellFormed : Ids → Bool
+wellFormed t =
+    bounded (t .dlimit) (t .slimit) (t .capacity) (t .source .count) (t .destination .count) (t .next) (t .rpt) (t .advertise .count) (t .retire .count)
+    && (sourcesFormed (t .source) (t .next) && destinationsFormed (t .destination) && queueFormed (t .advertise) && queueFormed (t .retire))

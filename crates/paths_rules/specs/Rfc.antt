@@ -1,0 +1,334 @@
+-- RFC 9000, sections 8, 8.1 and 8.2.1 to 8.2.4, as rules on the table before a frame or event, the event, and what comes of it; which the calls meet,
+-- which they meet but for a listed case, and where they differ. The ids D24 to D36 are rows of docs/DIFFERENCES.md. The proofs are in RfcProof.antt.
+use Prim.Native.Nat.{ℕ, _+_, _*_, _≤_, _<_}
+use mathlib.Core.Path.{_≡_}
+use mathlib.Core.List.{List, [], _∷_, _++_, map}
+use mathlib.Core.Bool.{Bool, true, false, not, _&&_, _||_}
+use mathlib.Core.Option.{some}
+use lib.ListN.{length}
+use lib.Dec.{eqb, leb, ltb}
+use Rattle.lists.specs.Defs.{any, all, empty, front}
+use Rattle.values.specs.declared.address.FourTuple.{FourTuple}
+use Rattle.values.specs.Limits.{maxShift, maxMoment, maxPathChalsRecv, maxPathChalsSent, maxProbingTimeouts, minClientInitialLen, minPathProbeSize}
+use Rattle.paths_rules.specs.Path.{Path, Challenge, rankFailed, challenge, lossTime, carries, largestAfter, probing, validated, allowed}
+use Rattle.paths_rules.specs.Table.{Table, Out, Number, Flag, Maybe, pathAt, known, fresh, timer}
+use Rattle.paths_rules.specs.Well.{well}
+use Rattle.paths_rules.specs.Calls.{Call, On, Insert, Timeout, Look, NeedsFrames, NeedsPadding, Allowed, Pop, Receive, Send, Respond, Credit, Verify}
+use Rattle.paths_rules.specs.Calls.{callFormed, apply, run}
+use Rattle.paths_rules.specs.Promise.{Begins, Lasts, Within, totalCredit, totalCharge, OnlyVerified}
+use Rattle.paths_rules.specs.Words.{pairA, pairB, pairC}
+
+-- ---- events, and how the calls take them
+
+-- a PATH_RESPONSE frame, on the path that the host names
+pub record Response : Type 0 where
+  pub path : ℕ
+  pub token : ℕ
+  pub now : ℕ
+
+-- a PATH_CHALLENGE frame received, and one sent in a datagram of a size
+pub record Received : Type 0 where
+  pub path : ℕ
+  pub token : ℕ
+
+pub record Sent : Type 0 where
+  pub path : ℕ
+  pub token : ℕ
+  pub size : ℕ
+  pub now : ℕ
+
+-- a datagram received, or about to be sent, of a length
+pub record Datagram : Type 0 where
+  pub path : ℕ
+  pub length : ℕ
+
+-- a path that is inserted
+pub record Begun : Type 0 where
+  pub pair : FourTuple
+  pub datagram : ℕ
+
+abbrev pub response : Response → Call
+response f = On (f .path) (Respond (f .token) (f .now))
+
+abbrev pub received : Received → Call
+received f = On (f .path) (Receive (f .token))
+
+abbrev pub sent : Sent → Call
+sent f = On (f .path) (Send (f .token) (f .size) (f .now))
+
+abbrev pub arrived : Datagram → Call
+arrived f = On (f .path) (Credit (f .length))
+
+abbrev pub wished : Datagram → Call
+wished f = On (f .path) (Look (Allowed (f .length)))
+
+abbrev pub begun : Begun → Call
+begun f = Insert (f .pair) (f .datagram)
+
+-- a PATH_RESPONSE is to be made; are validation frames to be sent; is a datagram to be expanded
+abbrev pub answered : ℕ → Call
+answered p = On p Pop
+
+abbrev pub frames : ℕ → Call
+frames p = On p (Look NeedsFrames)
+
+abbrev pub padding : ℕ → Call
+padding p = On p (Look NeedsPadding)
+
+abbrev pub timed : ℕ → Call
+timed now = Timeout now
+
+abbrev pub itself : Call → Call
+itself c = c
+
+-- ---- rules: the table before, what came, what comes of it
+
+abbrev pub Rule : Type 0 → Type 1
+Rule A = Table → A → Out → Type 0
+
+-- the calls meet the rule; they meet it but where the exception holds; they differ at t and f
+abbrev pub Met : {A : Type 0} → (A → Call) → Rule A → Type 0
+Met {A} call R = (t : Table) (f : A) → well t ≡ true → callFormed (call f) ≡ true → R t f (apply t (call f))
+
+abbrev pub MetUnless : {A : Type 0} → (A → Call) → (Table → A → Bool) → Rule A → Type 0
+MetUnless {A} call E R = (t : Table) (f : A) → well t ≡ true → callFormed (call f) ≡ true → E t f ≡ false → R t f (apply t (call f))
+
+abbrev pub DiffersAt : {A : Type 0} → (A → Call) → Rule A → Table → A → Type 0
+DiffersAt call R t f = R t f (apply t (call f)) → ⊥
+
+-- ---- 8 and 8.1: three times what was received
+
+-- prior to validating the client address, servers MUST NOT send more than three times as many bytes as they have received: over any run of a server
+-- with factor 3 whose host charges what it sends, and no more than the credit
+abbrev pub ThreeTimes : Type 0
+ThreeTimes = (p : ℕ) (t : Table) → Begins 3 p t → (cs : List Call) → Lasts p t cs → Within p t cs → totalCharge p cs ≤ 3 * totalCredit p cs
+
+-- a datagram received raises the limit by at most three times its length
+abbrev pub Three : Rule Datagram
+Three t f o = pathAt (f .path) (o .table) .credit ≤ pathAt (f .path) t .credit + 3 * f .length
+
+-- the exception: the host gave a larger factor (D36)
+abbrev pub largeFactor : Table → Datagram → Bool
+largeFactor t f = ltb 3 (t .factor)
+
+-- an endpoint MUST limit what it sends to an unvalidated address: what it is allowed is at most the credit
+abbrev pub Limits : Rule Datagram
+Limits t f o = known (f .path) t ≡ true → pathAt (f .path) t .verified ≡ false → (n : ℕ) → o .answer ≡ Number n → n ≤ pathAt (f .path) t .credit
+
+-- the exception: a client (D35)
+abbrev pub onClient : Table → Datagram → Bool
+onClient t f = not (t .server)
+
+-- ---- 8.2.1, initiating path validation
+
+-- an endpoint MAY send multiple PATH_CHALLENGE frames to guard against packet loss: here, until sixteen stand
+abbrev pub Several : Rule Sent
+Several t f o = known (f .path) t ≡ true → length (pathAt (f .path) t .sent) < maxPathChalsSent
+    → (o .refusal ≡ 0) × (pathAt (f .path) (o .table) .sent ≡ pathAt (f .path) t .sent ++ (challenge (f .token) (f .size) (f .now) (pathAt (f .path) t .lost) ∷ []))
+
+-- the exception: 8
+abbrev pub far : Table → Sent → Bool
+far t f = ltb maxShift (pathAt (f .path) t .lost) || ltb maxMoment (lossTime (f .now) (pathAt (f .path) t .lost))
+
+-- an endpoint MUST expand datagrams that contain a PATH_CHALLENGE frame (8.2.2: a PATH_RESPONSE frame) to 1200 bytes, unless the anti-amplification
+-- limit does not permit it
+abbrev pub Expands : Rule ℕ
+Expands t p o = known p t ≡ true → allowed (t .server) minClientInitialLen (pathAt p t) ≡ minClientInitialLen → o .answer ≡ Flag true
+
+-- the exceptions: a Validated path (D33); a server whose credit is at most max_datagram_size, verified or not (D31, D32)
+abbrev pub notTold : Table → ℕ → Bool
+notTold t p = validated (pathAt p t) || (t .server && leb (pathAt p t .credit) (pathAt p t .datagram))
+
+-- 8.2.2: an endpoint MUST NOT expand it past the anti-amplification limit
+abbrev pub ExpandsWithin : Rule ℕ
+ExpandsWithin t p o = t .server ≡ true → o .answer ≡ Flag true → pathAt p t .datagram ≤ pathAt p t .credit
+
+-- where the path MTU is not validated, the endpoint MUST perform a second path validation (8.2.3: MUST initiate another): one is asked for
+abbrev pub ProbesAgain : Rule Response
+ProbesAgain t f o = known (f .path) t ≡ true → validated (pathAt (f .path) t) ≡ false
+    → pathAt (f .path) (o .table) .largest < minClientInitialLen → pathAt (f .path) (o .table) .ask ≡ true
+
+-- a path becomes Validated only with a matched size of 1200 or more: by any call
+abbrev pub OnlyExpanded : Rule Call
+OnlyExpanded t c o = (p : ℕ) → validated (pathAt p t) ≡ false → validated (pathAt p (o .table)) ≡ true → minClientInitialLen ≤ pathAt p (o .table) .largest
+
+-- ---- 8.2.2, path validation responses
+
+-- on receiving a PATH_CHALLENGE frame, an endpoint MUST respond by echoing the data: it is kept, and so are those before it
+abbrev pub Keeps : Rule Received
+Keeps t f o = known (f .path) t ≡ true → pathAt (f .path) (o .table) .received ≡ pathAt (f .path) t .received ++ (f .token ∷ [])
+
+-- the exception: eight stand (D26)
+abbrev pub eightStand : Table → Received → Bool
+eightStand t f = leb maxPathChalsRecv (length (pathAt (f .path) t .received))
+
+-- an insertion takes none of them away
+abbrev pub Unforgotten : Rule Begun
+Unforgotten t f o = (p : ℕ) → p < length (t .paths) → pathAt p (o .table) .received ≡ pathAt p t .received
+
+-- the exception: a path is evicted (D34)
+abbrev pub atLimit : Table → Begun → Bool
+atLimit t f = leb (t .limit) (length (t .paths))
+
+-- what is echoed is the oldest received; it is taken out, so that an endpoint does not send more than one PATH_RESPONSE for it (MUST NOT)
+abbrev pub Echoes : Rule ℕ
+Echoes t p o = (d : ℕ) → o .answer ≡ Maybe (some d) → pathAt p t .received ≡ d ∷ pathAt p (o .table) .received
+
+-- a PATH_RESPONSE frame MUST be sent on the path where the PATH_CHALLENGE frame was received: on no other path is it kept
+abbrev pub OwnPath : Rule Received
+OwnPath t f o = (p : ℕ) → (f .path ≡ p → ⊥) → pathAt p (o .table) ≡ pathAt p t
+
+-- an endpoint MUST NOT delay a PATH_RESPONSE: it is told to send validation frames
+abbrev pub Prompt : Rule ℕ
+Prompt t p o = known p t ≡ true → empty (pathAt p t .received) ≡ false → o .answer ≡ Flag true
+
+-- the exception: a server with credit below 64, verified or not (D30)
+abbrev pub poor : Table → ℕ → Bool
+poor t p = t .server && ltb (pathAt p t .credit) minPathProbeSize
+
+-- ---- 8.2.3, successful path validation
+
+abbrev pub matches : Table → ℕ → ℕ → Bool
+matches t p d = any (carries d) (pathAt p t .sent)
+
+-- path validation succeeds when a PATH_RESPONSE contains the data of a PATH_CHALLENGE that stands on the path
+abbrev pub Succeeds : Rule Response
+Succeeds t f o = known (f .path) t ≡ true → matches t (f .path) (f .token) ≡ true → pathAt (f .path) (o .table) .verified ≡ true
+
+-- and only then
+abbrev pub OnlyWithData : Rule Response
+OnlyWithData t f o = matches t (f .path) (f .token) ≡ false → pathAt (f .path) (o .table) .verified ≡ pathAt (f .path) t .verified
+
+-- received on any path, it validates the path on which the PATH_CHALLENGE was sent
+abbrev pub OnAnyPath : Rule Response
+OnAnyPath t f o = (p : ℕ) → matches t p (f .token) ≡ true → pathAt p (o .table) .verified ≡ true
+
+-- the attempt ends: what was matched no longer stands
+abbrev pub AttemptEnds : Rule Response
+AttemptEnds t f o = known (f .path) t ≡ true → matches (o .table) (f .path) (f .token) ≡ false
+
+-- the exception: a Validated path (D29)
+abbrev pub already : Table → Response → Bool
+already t f = validated (pathAt (f .path) t)
+
+-- the data of any previous PATH_CHALLENGE, whatever happened since: s was sent on the path, in a datagram of 1200 bytes or more
+abbrev pub WithPrevious : Sent → Rule Response
+WithPrevious s t f o = s .path ≡ f .path → s .token ≡ f .token → minClientInitialLen ≤ s .size → validated (pathAt (f .path) (o .table)) ≡ true
+
+-- where the datagram was smaller than 1200 bytes, the address is validated but not the path MTU, and the endpoint can send more than three times
+abbrev pub AddressNotMtu : Rule Response
+AddressNotMtu t f o = known (f .path) t ≡ true → validated (pathAt (f .path) t) ≡ false → largestAfter (f .token) (pathAt (f .path) t) < minClientInitialLen
+    → (pathAt (f .path) (o .table) .verified ≡ true) × (validated (pathAt (f .path) (o .table)) ≡ false)
+    × ((wish : ℕ) → allowed (t .server) wish (pathAt (f .path) (o .table)) ≡ wish)
+
+-- an acknowledgment is not adequate (8.2.4: a PATH_RESPONSE frame is required): no call but a response makes a path Validated
+abbrev pub OnlyByResponse : Rule Call
+OnlyByResponse t c o = (p : ℕ) → ((d now : ℕ) → c ≡ On p (Respond d now) → ⊥) → validated (pathAt p t) ≡ false → validated (pathAt p (o .table)) ≡ false
+
+-- ---- 8.2.4, failed path validation
+
+abbrev pub hasFailed : Path → Bool
+hasFailed x = eqb (x .rank) rankFailed
+
+-- path validation only fails when the endpoint abandons it: by no call but a timeout
+abbrev pub OnlyTimeoutFails : Rule Call
+OnlyTimeoutFails t c o = (p : ℕ) → ((now : ℕ) → c ≡ Timeout now → ⊥) → hasFailed (pathAt p t) ≡ false → hasFailed (pathAt p (o .table)) ≡ false
+
+-- loss of a single PATH_CHALLENGE or PATH_RESPONSE does not cause failure: eight losses do
+abbrev pub FailsAtEight : Rule ℕ
+FailsAtEight t now o = (p : ℕ) → hasFailed (pathAt p t) ≡ false → hasFailed (pathAt p (o .table)) ≡ true → maxProbingTimeouts ≤ pathAt p (o .table) .lost
+
+-- endpoints SHOULD abandon path validation based on a timer; the path is then unusable: at the eighth loss
+abbrev pub Abandons : Rule ℕ
+Abandons t now o = (p : ℕ) (c : Challenge) → known p t ≡ true → probing (pathAt p t) ≡ true → front (pathAt p t .sent) ≡ some c → c .deadline ≤ now
+    → maxProbingTimeouts ≤ pathAt p t .lost + 1
+    → (hasFailed (pathAt p (o .table)) ≡ true) × (pathAt p (o .table) .active ≡ false) × (pathAt p (o .table) .sent ≡ [])
+
+-- after a timeout, the timer of the paths is later than now
+abbrev pub TimerMoves : Rule ℕ
+TimerMoves t now o = (m : ℕ) → timer (o .table .paths) ≡ some m → now < m
+
+-- the exception: challenges stand on a path that is not being validated (D29)
+abbrev pub stuck : Table → ℕ → Bool
+stuck t now = any (λ (x : Path). not (probing x) && not (empty (x .sent))) (t .paths)
+
+-- three times the PTO for the new path is RECOMMENDED: with kInitialRtt of 333 ms the PTO is 999 ms or more
+abbrev pub threePtos : ℕ
+threePtos = 3 * 999000
+
+abbrev pub NotBefore : Rule ℕ
+NotBefore t now o = (p : ℕ) → all (λ (c : Challenge). ltb now (c .sent + threePtos)) (pathAt p t .sent) ≡ true
+    → hasFailed (pathAt p t) ≡ false → hasFailed (pathAt p (o .table)) ≡ false
+
+-- ---- the whole
+
+pub record Conforms : Type 0 where
+  -- 8, 8.1
+  pub threeTimes : ThreeTimes
+  pub three : MetUnless arrived largeFactor Three
+  pub limits : MetUnless wished onClient Limits
+  -- 8.2.1
+  pub several : MetUnless sent far Several
+  pub expands : MetUnless padding notTold Expands
+  pub expandsWithin : Met padding ExpandsWithin
+  pub probesAgain : Met response ProbesAgain
+  pub onlyExpanded : Met itself OnlyExpanded
+  -- 8.2.2
+  pub keeps : MetUnless received eightStand Keeps
+  pub unforgotten : MetUnless begun atLimit Unforgotten
+  pub echoes : Met answered Echoes
+  pub ownPath : Met received OwnPath
+  pub prompt : MetUnless frames poor Prompt
+  -- 8.2.3
+  pub succeeds : MetUnless response already Succeeds
+  pub attemptEnds : MetUnless response already AttemptEnds
+  pub addressNotMtu : Met response AddressNotMtu
+  pub onlyVerified : OnlyVerified
+  pub onlyByResponse : Met itself OnlyByResponse
+  -- 8.2.4
+  pub onlyTimeoutFails : Met itself OnlyTimeoutFails
+  pub failsAtEight : Met timed FailsAtEight
+  pub abandons : Met timed Abandons
+  pub timerMoves : MetUnless timed stuck TimerMoves
+
+-- ---- the differences, each at its smallest input, reached from fresh by calls
+
+-- a server with pair A and this path limit, and the same with path 1 inserted
+abbrev pub start : ℕ → Table
+start n = fresh pairA 1200 n 3 true
+
+abbrev pub probe : List Call → Table
+probe cs = run (start 2) (Insert pairB 1200 ∷ cs)
+
+abbrev pub eight : List Call
+eight = map (λ (d : ℕ). On 1 (Send d 1200 0)) (1 ∷ 2 ∷ 3 ∷ 4 ∷ 5 ∷ 6 ∷ 7 ∷ 8 ∷ [])
+
+abbrev pub early : Sent
+early = record { path = 1; token = 7; size = 1200; now = 0 }
+
+pub record Differs : Type 0 where
+  -- D24: without a match the address is verified
+  pub withoutData : DiffersAt response OnlyWithData (probe []) (record { path = 1; token = 0; now = 0 })
+  -- D25: a response on path 0 does not validate path 1
+  pub otherPath : DiffersAt response OnAnyPath (probe (On 1 (Send 7 1200 0) ∷ [])) (record { path = 0; token = 7; now = 0 })
+  -- D26: a ninth received challenge drops the oldest
+  pub ninth : DiffersAt received Keeps (run (start 1) (map (λ (d : ℕ). On 0 (Receive d)) (1 ∷ 2 ∷ 3 ∷ 4 ∷ 5 ∷ 6 ∷ 7 ∷ 8 ∷ []))) (record { path = 0; token = 9 })
+  -- D27: eight challenges of one moment fail the path after 25 ms
+  pub soon : DiffersAt timed NotBefore (probe eight) 25000
+  -- D28: the response to a challenge that was timed out is no match
+  pub tooLate : DiffersAt response (WithPrevious early) (probe (sent early ∷ Timeout 25000 ∷ [])) (record { path = 1; token = 7; now = 30000 })
+  -- D29: on a Validated path neither a response nor a timeout touches what stands
+  pub staysMatched : DiffersAt response AttemptEnds (run (start 1) (On 0 (Send 7 1200 0) ∷ [])) (record { path = 0; token = 7; now = 1000 })
+  pub staysUnverified : DiffersAt response Succeeds (run (start 1) (On 0 (Send 7 1200 0) ∷ [])) (record { path = 0; token = 7; now = 1000 })
+  pub staysDue : DiffersAt timed TimerMoves (run (start 1) (On 0 (Send 7 1200 0) ∷ [])) 25000
+  -- D30: a verified address with credit below 64
+  pub delayed : DiffersAt frames Prompt (run (start 1) (On 0 Verify ∷ On 0 (Receive 7) ∷ [])) 0
+  -- D31: verified, with credit 120; D32: credit is the datagram size; D33: a Validated path
+  pub unexpanded : DiffersAt padding Expands (probe (On 1 (Credit 40) ∷ On 1 (Send 7 120 0) ∷ On 1 (Respond 7 10) ∷ [])) 1
+  pub unexpandedAtSize : DiffersAt padding Expands (probe (On 1 (Credit 400) ∷ [])) 1
+  pub unexpandedValidated : DiffersAt padding Expands (run (start 1) (On 0 (Credit 401) ∷ On 0 (Receive 7) ∷ [])) 0
+  -- D34: an evicted path's received challenges are gone
+  pub evicted : DiffersAt begun Unforgotten (probe (On 1 (Receive 7) ∷ [])) (record { pair = pairC; datagram = 1200 })
+  -- D35: a client; D36: factor 4
+  pub unlimited : DiffersAt wished Limits (fresh pairA 1200 1 3 false) (record { path = 0; length = 5 })
+  pub fourTimes : DiffersAt arrived Three (fresh pairA 1200 1 4 true) (record { path = 0; length = 1 })

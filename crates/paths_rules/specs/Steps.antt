@@ -1,0 +1,174 @@
+-- What one call does to one path of the table: the path p after the call, from the path p before it.
+use Prim.Native.Nat.{ℕ, zero, suc, _≤_}
+use mathlib.Core.Path.{_≡_, refl, sym, ap, ap₂, _∙_}
+use mathlib.Core.List.{List, [], _∷_, _++_, map}
+use mathlib.Core.Bool.{Bool, true, false, cond, _&&_}
+use mathlib.Core.Option.{Option, none, some}
+use native.Mathlib.Omega.{arith}
+use lib.ListN.{length, getD, set, length-set, length-map, length-append}
+use lib.Dec.{eqb, ltb}
+use borrow.Author.Tests.{eqb-true}
+use Rattle.lists.specs.Defs.{firstWith}
+use Rattle.values.specs.declared.address.FourTuple.{FourTuple}
+use Rattle.paths_rules.specs.Path.{Path, zeroPath, newPath, timeout, unlist, withPing, inUse, unused, flagged, listedAs}
+use Rattle.paths_rules.specs.Table.{Table, Out, Inserted, refused, accepted, pathAt, withPaths, onPath, onAll, appended, replaced, evict, insert, pingAt}
+use Rattle.paths_rules.specs.Table.{pingInUse, pingOn, multipathOn}
+use Rattle.paths_rules.specs.Well.{well}
+use Rattle.paths_rules.specs.Calls.{Act, Call, On, Insert, Timeout, Ping, Multipath, Ask, Survey, Len, IdOf, GetActive, Timer, survey, activeOut, callFormed}
+use Rattle.paths_rules.specs.Calls.{step, apply, after, effect, refusal, answer}
+
+-- a fact of both results of a test is a fact of the result
+pub both : {A : Type 0} (P : A → Type 0) {x y : A} (b : Bool) → P x → P y → P (cond b x y)
+both P true h k = h
+both P false h k = k
+
+-- the same, where each side knows how the test came out
+pub decided : {A : Type 0} (P : A → Type 0) {x y : A} (b : Bool) → (b ≡ true → P x) → (b ≡ false → P y) → P (cond b x y)
+decided P true h k = h refl
+decided P false h k = k refl
+
+-- a call with arguments of their form, on a well-formed table, is its step
+pub apply-is : (t : Table) (c : Call) → well t ≡ true → callFormed c ≡ true → apply t c ≡ step t c
+apply-is t c h f = ap (λ (b : Bool). cond b (step t c) (refused 1 t)) (ap₂ _&&_ h f)
+
+-- a call that reads the table leaves it
+pub survey-same : (t : Table) (s : Survey) → survey t s .table ≡ t
+survey-same t Len = refl
+survey-same t (IdOf a) = refl
+survey-same t GetActive = test (firstWith flagged (t .paths))
+  where
+    test : (o : Option ℕ) → activeOut o t .table ≡ t
+    test none = refl
+    test (some i) = refl
+survey-same t Timer = refl
+
+-- ---- lists
+
+module _ {A : Type 0} (P : A → Type 0) (d : A) where
+  map-holds : (f : A → A) → ((x : A) → P x → P (f x)) → (l : List A) (p : ℕ) → P (getD l p d) → P (getD (map f l) p d)
+  map-holds f k [] p h = h
+  map-holds f k (x ∷ l) zero h = k x h
+  map-holds f k (x ∷ l) (suc p) h = map-holds f k l p h
+
+  pub set-holds : (l : List A) (q p : ℕ) (y : A) → (q ≡ p → P y) → P (getD l p d) → P (getD (set l q y) p d)
+  set-holds [] q p y k h = h
+  set-holds (x ∷ l) zero zero y k h = k refl
+  set-holds (x ∷ l) zero (suc p) y k h = h
+  set-holds (x ∷ l) (suc q) zero y k h = h
+  set-holds (x ∷ l) (suc q) (suc p) y k h = set-holds l q p y (λ e. k (ap suc e)) h
+
+  pub snoc-holds : (l : List A) (y : A) (p : ℕ) → (length l ≡ p → P y) → P (getD l p d) → P (getD (l ++ (y ∷ [])) p d)
+  snoc-holds [] y zero k h = k refl
+  snoc-holds [] y (suc p) k h = h
+  snoc-holds (x ∷ l) y zero k h = h
+  snoc-holds (x ∷ l) y (suc p) k h = snoc-holds l y p (λ e. k (ap suc e)) h
+
+-- ---- a fact of the path p, after a change of one path, of all paths, and after each kind of call
+
+module _ (P : Path → Type 0) (p : ℕ) (t : Table) (h : P (pathAt p t)) where
+  pub one-holds : (q : ℕ) (f : Path → Path) → (q ≡ p → P (f (pathAt q t))) → P (pathAt p (onPath q f t))
+  one-holds q f k = set-holds P zeroPath (t .paths) q p (f (pathAt q t)) k h
+
+  all-holds : (f : Path → Path) → ((x : Path) → P x → P (f x)) → P (pathAt p (onAll f t))
+  all-holds f k = map-holds P zeroPath f k (t .paths) p h
+
+  -- a call on the path q
+  pub act-holds : (q : ℕ) (a : Act) → (refusal t q a ≡ 0 → q ≡ p → P (effect t a (pathAt q t))) → P (pathAt p (step t (On q a) .table))
+  act-holds q a k = test (eqb (refusal t q a) 0) refl
+    where
+      test : (b : Bool) → eqb (refusal t q a) 0 ≡ b
+          → P (pathAt p (cond b (accepted (answer t q a) (onPath q (effect t a) t)) (refused (refusal t q a) t) .table))
+      test true e = one-holds q (effect t a) (k (eqb-true (refusal t q a) 0 e))
+      test false e = h
+
+  module _ (listing : (a : FourTuple) (x : Path) → P x → P (unlist a x)) where
+    appended-holds : (a : FourTuple) (m : ℕ) → (length (t .paths) ≡ p → P (newPath a m)) → P (pathAt p (appended a m t))
+    appended-holds a m k =
+        snoc-holds P zeroPath (map (unlist a) (t .paths)) (newPath a m) p
+        (λ e. k (sym (length-map (t .paths) (unlist a)) ∙ e))
+        (map-holds P zeroPath (unlist a) (listing a) (t .paths) p h)
+
+    replaced-holds : (i : ℕ) (a : FourTuple) (m : ℕ) → (i ≡ p → P (newPath a m)) → P (pathAt p (replaced i a m t))
+    replaced-holds i a m k =
+        let b : FourTuple = pathAt i t .pair in
+        set-holds P zeroPath (map (unlist a) (map (unlist b) (t .paths))) i p (newPath a m) k
+        (map-holds P zeroPath (unlist a) (listing a) (map (unlist b) (t .paths)) p (map-holds P zeroPath (unlist b) (listing b) (t .paths) p h))
+
+    -- an insertion
+    pub insert-holds : (a : FourTuple) (m : ℕ) → (insert a m t .answer ≡ Inserted p → P (newPath a m)) → P (pathAt p (insert a m t .table))
+    insert-holds a m = test (ltb (length (t .paths)) (t .limit)) (firstWith unused (t .paths))
+      where
+        test : (b : Bool) (o : Option ℕ)
+            → (cond b (accepted (Inserted (length (t .paths))) (appended a m t)) (evict o a m t) .answer ≡ Inserted p → P (newPath a m))
+            → P (pathAt p (cond b (accepted (Inserted (length (t .paths))) (appended a m t)) (evict o a m t) .table))
+        test true o k = appended-holds a m (λ e. k (ap Inserted e))
+        test false none k = h
+        test false (some i) k = replaced-holds i a m (λ e. k (ap Inserted e))
+
+    -- any step
+    module _ (ping-keeps : (x : Path) → P x → P (withPing true x)) where
+      at-holds : (n : ℕ) (o : Option ℕ) → P (pathAt p (pingAt n o t .table))
+      at-holds n none = h
+      at-holds n (some i) = one-holds i (withPing true) (λ e. rw e (ping-keeps (pathAt p t) h))
+
+      on-ping : (o : Option FourTuple) → P (pathAt p (pingOn o t .table))
+      on-ping none = all-holds pingInUse (λ x k. both P (inUse x) (ping-keeps x k) k)
+      on-ping (some a) = at-holds 0 (firstWith (listedAs a) (t .paths))
+
+      step-holds : (c : Call) → ((now : ℕ) → c ≡ Timeout now → (x : Path) → P x → P (timeout now x))
+          → ((a : Act) → refusal t p a ≡ 0 → c ≡ On p a → P (effect t a (pathAt p t)))
+          → ((a : FourTuple) (m : ℕ) → c ≡ Insert a m → step t c .answer ≡ Inserted p → P (newPath a m)) → P (pathAt p (step t c .table))
+      step-holds (On q a) time act new = act-holds q a (λ r e. rw e (act a (rw e at r) (rw e)))
+      step-holds (Insert a m) time act new = insert-holds a m (new a m refl)
+      step-holds (Timeout now) time act new = all-holds (timeout now) (time now refl)
+      step-holds (Ping o) time act new = both (λ (u : Out). P (pathAt p (u .table))) (t .multipath) (on-ping o) (at-holds 2 (firstWith flagged (t .paths)))
+      step-holds Multipath time act new = h
+      step-holds (Ask s) time act new = rw (survey-same t s) h
+
+      -- any call, refused ones too
+      pub call-holds : (c : Call) → ((now : ℕ) → c ≡ Timeout now → (x : Path) → P x → P (timeout now x))
+          → ((a : Act) → refusal t p a ≡ 0 → c ≡ On p a → P (effect t a (pathAt p t)))
+          → ((a : FourTuple) (m : ℕ) → c ≡ Insert a m → apply t c .answer ≡ Inserted p → P (newPath a m)) → P (pathAt p (after t c))
+      call-holds c time act new = test (well t && callFormed c) refl
+        where
+          test : (b : Bool) → (well t && callFormed c) ≡ b → P (pathAt p (cond b (step t c) (refused 1 t) .table))
+          test true e = step-holds c time act (λ a m i z. new a m i (ap (λ (b : Bool). cond b (step t c) (refused 1 t) .answer) e ∙ z))
+          test false e = h
+
+-- ---- what every call keeps of the table: a fact that any change of the paths keeps, if none is lost
+
+module _ (P : Table → Type 0) (t : Table) (h : P t) (more : (l : List Path) → length (t .paths) ≤ length l → P (withPaths l t)) where
+  set-more : (q : ℕ) (f : Path → Path) → P (onPath q f t)
+  set-more q f = more (set (t .paths) q (f (pathAt q t))) (omega (arith, length-set (t .paths) q (f (pathAt q t))))
+
+  map-more : (f : Path → Path) → P (onAll f t)
+  map-more f = more (map f (t .paths)) (omega (arith, length-map (t .paths) f))
+
+  insert-more : (a : FourTuple) (m : ℕ) → P (insert a m t .table)
+  insert-more a m = both (λ (o : Out). P (o .table)) (ltb (length (t .paths)) (t .limit)) append (replace (firstWith unused (t .paths)))
+    where
+      append : P (appended a m t)
+      append = more (map (unlist a) (t .paths) ++ (newPath a m ∷ [])) (simp (length-append, length-map) (omega arith))
+
+      replace : (o : Option ℕ) → P (evict o a m t .table)
+      replace none = h
+      replace (some i) = more _ (simp (length-set, length-map) (omega arith))
+
+  ping-more : (n : ℕ) (o : Option ℕ) → P (pingAt n o t .table)
+  ping-more n none = h
+  ping-more n (some i) = set-more i (withPing true)
+
+  ping-on-more : (o : Option FourTuple) → P (pingOn o t .table)
+  ping-on-more none = map-more pingInUse
+  ping-on-more (some a) = ping-more 0 (firstWith (listedAs a) (t .paths))
+
+  step-more : P (multipathOn t) → (c : Call) → P (step t c .table)
+  step-more m (On q a) = both (λ (o : Out). P (o .table)) (eqb (refusal t q a) 0) (set-more q (effect t a)) h
+  step-more m (Insert a n) = insert-more a n
+  step-more m (Timeout now) = map-more (timeout now)
+  step-more m (Ping o) = both (λ (u : Out). P (u .table)) (t .multipath) (ping-on-more o) (ping-more 2 (firstWith flagged (t .paths)))
+  step-more m Multipath = m
+  step-more m (Ask s) = rw (survey-same t s) h
+
+  pub call-more : P (multipathOn t) → (c : Call) → P (after t c)
+  call-more m c = both (λ (o : Out). P (o .table)) (well t && callFormed c) (step-more m c) h

@@ -1,0 +1,1 @@
+// The rules of the paths as definitions on lists and numbers, and what they promise over any run of calls: there is no code here, only specs/.

@@ -1,0 +1,5 @@
+pub mod Formed
+pub mod Live
+pub mod Laws
+pub mod Conjuncts
+pub mod Examples

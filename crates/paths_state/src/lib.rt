@@ -1,0 +1,11 @@
+// The state of the paths, and the test that it is well formed. docs/RULES.md, "Well-formed paths".
+mod path;
+mod state;
+mod test;
+mod zeros;
+
+pub use state::Path;
+pub use state::Paths;
+pub use state::no_path;
+pub use state::no_paths;
+pub use test::formed;

@@ -1,0 +1,169 @@
+// What the calls ask of a table: where an item stands, how many are free, the lowest sequence, and what add_dcid asks before it adds one.
+ghost use mathlib.Core.Path.{_≡_};
+ghost use mathlib.Core.Option.{some};
+ghost use lib.ListN.{length};
+ghost use Rattle.lists.specs.Defs.{firstWith, given, keep, least, less, picked};
+ghost use Rattle.tables.specs.Table.{TableWell, atLeast, firstJudged, foundOf, free, hasCid, hasSeq, judged, live, lowestOf, seqOf};
+use crate::items::Item;
+use crate::items::Table;
+use values::ConnectionId;
+
+pub enum Found {
+    At(usize),
+    Nothing,
+}
+
+pub enum Lowest {
+    Seq(u64),
+    Missing,
+}
+
+// The place of the first item with the sequence.
+pub fn find_seq(t: Table, seq: u64) -> Found
+    requires { ⌜ TableWell t ⌝ }
+    ensures { λ r. ⌜ r ≡ foundOf (firstWith (hasSeq seq) (live t)) ⌝ }
+{
+    let count = t.count;
+    let mut i: usize = 0;
+    while i < count {
+        let s = t.items[i].seq;
+        if seq == s {
+            return Found::At(i);
+        }
+        i += 1;
+    }
+    Found::Nothing
+}
+
+// The place of the first item with the ID.
+pub fn find_cid(t: Table, cid: ConnectionId) -> Found
+    requires { ⌜ TableWell t ⌝ }
+    ensures { λ r. ⌜ r ≡ foundOf (firstWith (hasCid cid) (live t)) ⌝ }
+{
+    let count = t.count;
+    let mut i: usize = 0;
+    while i < count {
+        let x = t.items[i];
+        let id = x.cid;
+        if values::cid_eq(id, cid) {
+            return Found::At(i);
+        }
+        i += 1;
+    }
+    Found::Nothing
+}
+
+// How many items no path uses.
+pub fn count_free(t: Table) -> u64
+    requires { ⌜ TableWell t ⌝ }
+    ensures { λ r. ⌜ r ≡ length (keep free (live t)) ⌝ }
+{
+    let mut n: u64 = 0;
+    let count = t.count;
+    let mut i: usize = 0;
+    while i < count {
+        let x = t.items[i];
+        if !x.has_path {
+            n += 1;
+        }
+        i += 1;
+    }
+    n
+}
+
+fn lesser(found: bool, best: u64, s: u64) -> u64
+    ensures { λ r. ⌜ some r ≡ less (given found best) s ⌝ }
+{
+    if found {
+        if best <= s { best } else { s }
+    } else {
+        s
+    }
+}
+
+// The least sequence at or above the bound.
+pub fn lowest_from(t: Table, bound: u64) -> Lowest
+    requires { ⌜ TableWell t ⌝ }
+    ensures { λ r. ⌜ r ≡ lowestOf (least (picked seqOf (atLeast bound) (live t))) ⌝ }
+{
+    let mut found = false;
+    let mut best: u64 = 0;
+    let count = t.count;
+    let mut i: usize = 0;
+    while i < count {
+        let s = t.items[i].seq;
+        if bound <= s {
+            best = lesser(found, best, s);
+            found = true;
+        }
+        i += 1;
+    }
+    if found {
+        Lowest::Seq(best)
+    } else {
+        Lowest::Missing
+    }
+}
+
+// The least sequence of an item that no path uses.
+pub fn lowest_free(t: Table) -> Lowest
+    requires { ⌜ TableWell t ⌝ }
+    ensures { λ r. ⌜ r ≡ lowestOf (least (picked seqOf free (live t))) ⌝ }
+{
+    let mut found = false;
+    let mut best: u64 = 0;
+    let count = t.count;
+    let mut i: usize = 0;
+    while i < count {
+        let x = t.items[i];
+        if !x.has_path {
+            best = lesser(found, best, x.seq);
+            found = true;
+        }
+        i += 1;
+    }
+    if found {
+        Lowest::Seq(best)
+    } else {
+        Lowest::Missing
+    }
+}
+
+// 0: neither ID nor sequence is equal; 1: ID, sequence and token are; 2: otherwise.
+fn judge(x: Item, y: Item) -> u8
+    ensures { λ r. ⌜ r ≡ judged x y ⌝ }
+{
+    let a = y.cid;
+    let b = x.cid;
+    let k = y.token;
+    let j = x.token;
+    let u = k.bytes;
+    let v = j.bytes;
+    let s = values::cid_eq(a, b);
+    let m = values::same16(u, v);
+    let t = k.present & j.present & m;
+    let e = y.seq == x.seq;
+    if s | e {
+        if s & e & t { 1 } else { 2 }
+    } else {
+        0
+    }
+}
+
+// The judgement of the first item that is not judged 0.
+pub fn clash(t: Table, x: Item) -> u8
+    requires { ⌜ TableWell t ⌝ }
+    ensures { λ r. ⌜ r ≡ firstJudged x (live t) ⌝ }
+{
+    let count = t.count;
+    let mut i: usize = 0;
+    while i < count {
+        let y = t.items[i];
+        let j = judge(x, y);
+        if j != 0 {
+            return j;
+        }
+        i += 1;
+    }
+    0
+}
