@@ -9,6 +9,10 @@ pub fn mix(h: u64, w: u64) -> u64 {
     d ^ (d >> 11)
 }
 
+pub fn wide(b: u8) -> u64 {
+    b as u64
+}
+
 pub fn mix_flag(h: u64, b: bool) -> u64 {
     if b {
         return mix(h, 1);

@@ -1,11 +1,16 @@
 // Answers a trace: fixed-width call records from standard input, a line for each on standard output (docs/TRACES.md). The oracle answers the same
 // records by the Rust, and the two outputs are compared byte for byte.
 mod digest;
+mod ids_calls;
+mod ids_digest;
+mod ids_reads;
+mod ids_text;
 mod record;
 mod text;
 mod timers_calls;
 mod values_calls;
 
+use ids_state::Ids;
 use libc::STDIN_FILENO;
 use libc::STDOUT_FILENO;
 use record::Record;
@@ -14,49 +19,70 @@ use timers::TimerTable;
 // The states that the calls work on, and the place after what is written.
 struct States {
     timers: TimerTable,
+    ids: Ids,
     at: usize,
     // how many records were answered
     count: u64,
-    // a malformed record was met
+    // the trace has ended
     over: bool,
 }
 
-fn answered(s: States, timers: TimerTable, at: usize) -> States {
-    States {
-        timers: timers,
-        at: at,
-        count: std::num::wrapping_add_u64(s.count, 1),
-        over: false,
-    }
+// All-zero IDs: what a refused fresh gives.
+fn no_ids() -> Ids {
+    let none = ids::fresh(
+        0,
+        values::ConnectionId {
+            bytes: [0; 20],
+            len: 0,
+        },
+        0,
+        values::Token {
+            bytes: [0; 16],
+            present: false,
+        },
+    );
+    let s = none.ids;
+    s
+}
+
+fn answered(s: States, at: usize) -> States {
+    let mut u = s;
+    u.at = at;
+    u.count = std::num::wrapping_add_u64(s.count, 1);
+    u
 }
 
 fn answer(s: States, r: Record, out: &mut [u8]) -> States {
     let call = r.call;
     let at = s.at;
-    let t = s.timers;
+    let mut u = s;
     if (call == 0x08) | (call == 0x09) {
-        let p = values_calls::line(r, out, at);
-        return answered(s, t, p);
+        return answered(s, values_calls::line(r, out, at));
     }
     if (0x10 <= call) & (call <= 0x15) {
+        let t = s.timers;
         let l = timers_calls::line(t, r, out, at);
-        let u = l.timers;
-        return answered(s, u, l.at);
+        let v = l.timers;
+        u.timers = v;
+        return answered(u, l.at);
+    }
+    if ((0x20 <= call) & (call <= 0x39)) | ((0xe0 <= call) & (call <= 0xe2)) {
+        let i = s.ids;
+        let l = ids_calls::line(i, r, out, at);
+        let v = l.ids;
+        u.ids = v;
+        return answered(u, l.at);
     }
     let p = text::put_pair(out, at, call);
     let q = text::put_text(out, p, b" unknown call\n");
-    answered(s, t, q)
+    answered(s, q)
 }
 
-fn stopped(s: States, out: &mut [u8], how: &[u8]) -> States {
-    let p = text::put_note(out, s.at, b"record", s.count, how);
-    let t = s.timers;
-    States {
-        timers: t,
-        at: p,
-        count: s.count,
-        over: true,
-    }
+fn stopped(s: States, out: &mut [u8], what: &[u8], how: &[u8]) -> States {
+    let mut u = s;
+    u.at = text::put_note(out, s.at, what, s.count, how);
+    u.over = true;
+    u
 }
 
 // One record, unless the trace is over.
@@ -68,22 +94,18 @@ fn step(s: States, rec: &[u8], out: &mut [u8]) -> States {
     if r.formed {
         return answer(s, r, out);
     }
-    stopped(s, out, b" malformed")
+    stopped(s, out, b"record", b" malformed")
 }
 
 // Writes what has gathered.
 fn flushed(s: States, out: &[u8]) -> States {
     let n = s.at;
-    let t = s.timers;
+    let mut u = s;
     if n <= out.len() {
         io::write_all(STDOUT_FILENO, &out[..n]);
     }
-    States {
-        timers: t,
-        at: 0,
-        count: s.count,
-        over: s.over,
-    }
+    u.at = 0;
+    u
 }
 
 // The record at place i of the buffer, if it is whole among the first n bytes.
@@ -115,16 +137,9 @@ fn finished(s: States, rest: usize, out: &mut [u8]) -> States {
         return s;
     }
     if rest == 0 {
-        let p = text::put_note(out, s.at, b"end", s.count, b"");
-        let t = s.timers;
-        return States {
-            timers: t,
-            at: p,
-            count: s.count,
-            over: true,
-        };
+        return stopped(s, out, b"end", b"");
     }
-    stopped(s, out, b" truncated")
+    stopped(s, out, b"record", b" truncated")
 }
 
 fn main() {
@@ -134,6 +149,7 @@ fn main() {
     let out: &mut [u8] = &mut page;
     let mut s = States {
         timers: timers::fresh(),
+        ids: no_ids(),
         at: 0,
         count: 0,
         over: false,

@@ -1,4 +1,6 @@
 // A record of 96 bytes, as docs/TRACES.md lays it out.
+use values::ConnectionId;
+use values::Token;
 
 pub struct Record {
     pub area: [u8; 54],
@@ -68,5 +70,33 @@ pub fn read(s: &[u8]) -> Record {
         c: byte(s, 3) == 1,
         d: byte(s, 4) == 1,
         formed: formed(s),
+    }
+}
+
+// The ID that the area begins with: its length, and 20 bytes.
+pub fn id(r: Record) -> ConnectionId {
+    let mut bytes = [0u8; 20];
+    let mut i: usize = 0;
+    while i < 20 {
+        bytes[i] = r.area[i + 1];
+        i += 1;
+    }
+    ConnectionId {
+        bytes: bytes,
+        len: r.area[0],
+    }
+}
+
+// The 16 bytes after the ID, with the record's flag a.
+pub fn token(r: Record) -> Token {
+    let mut bytes = [0u8; 16];
+    let mut i: usize = 0;
+    while i < 16 {
+        bytes[i] = r.area[i + 21];
+        i += 1;
+    }
+    Token {
+        bytes: bytes,
+        present: r.a,
     }
 }

@@ -7,7 +7,7 @@ use Rattle.replay.proofs.flushed.Statement.{statement}
 use Rattle.replay.proofs.flushed.Tie as tie
 
 slice-aggregate-write-all : tie.Need-slice-aggregate-write-all
-slice-aggregate-write-all c = sym (length-take-le (c .before .before .before .before .args .s .at) (c .before .before .before .before .args .out .now) (omega arith))
+slice-aggregate-write-all c = sym (length-take-le (c .before .before .before .args .s .at) (c .before .before .before .args .out .now) (omega arith))
 
 write-all-requires : tie.Need-write-all-requires
 write-all-requires c κs = search needs

@@ -19,6 +19,9 @@ slice-aggregate-out c = search needs
 fresh-requires : tie.Need-fresh-requires Inv-loop μ-loop
 fresh-requires c κs = search needs
 
+no-ids-requires : tie.Need-no-ids-requires Inv-loop μ-loop
+no-ids-requires c κs = search needs
+
 loop-holds : tie.Need-loop-holds Inv-loop μ-loop
 loop-holds c = search needs
 
@@ -61,6 +64,7 @@ main-spec =
     slice-aggregate-buf
     slice-aggregate-out
     fresh-requires
+    no-ids-requires
     loop-holds
     read-full-requires
     records-requires
