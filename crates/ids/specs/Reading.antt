@@ -4,7 +4,7 @@ use mathlib.Core.List.{List, [], map}
 use mathlib.Core.Bool.{Bool, true, false, cond, _&&_, _||_}
 use mathlib.Core.Option.{Option, none, some}
 use lib.ListN.{replicate}
-use Rattle.lists.specs.Defs.{maybe, present, given, nought, has}
+use Rattle.lists.specs.Defs.{maybe, present, given, nought}
 use Rattle.values.specs.Limits.{tokenLen}
 use Rattle.values.specs.Cid.{zeroId}
 use Rattle.values.specs.Token.{zeroToken, tokenFormed, tokenView}

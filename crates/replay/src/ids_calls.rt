@@ -59,7 +59,12 @@ fn changed(s: Ids, r: Record, out: &mut [u8], at: usize) -> IdsLine {
         return done(ids::fresh(r.n0, id, r.n1, token), call, out, at);
     }
     if call == 0x21 {
-        return done(ids::set_initial_dcid(s, id, token, r.b, r.n0), call, out, at);
+        return done(
+            ids::set_initial_dcid(s, id, token, r.b, r.n0),
+            call,
+            out,
+            at,
+        );
     }
     if call == 0x22 {
         return done(ids::set_scid_limit(s, r.n0), call, out, at);
@@ -71,7 +76,12 @@ fn changed(s: Ids, r: Record, out: &mut [u8], at: usize) -> IdsLine {
         return done(ids::mark_dcid_used(s, r.n0, r.n1), call, out, at);
     }
     if call == 0x2b {
-        return issued(ids::add_scid(s, id, token, r.c, r.b, r.n0, r.d), call, out, at);
+        return issued(
+            ids::add_scid(s, id, token, r.c, r.b, r.n0, r.d),
+            call,
+            out,
+            at,
+        );
     }
     if call == 0x2c {
         let bytes = token.bytes;

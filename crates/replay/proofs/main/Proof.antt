@@ -1,5 +1,6 @@
 -- The loop only counts up to its end.
 use Prim.Native.Nat.{_≤_, _-_}
+use native.Mathlib.Omega.{arith}
 use borrow.Author.Needs.{needs}
 use Rattle.replay.proofs.main.Statement.{statement}
 use Rattle.replay.proofs.main.Tie as tie
@@ -9,6 +10,12 @@ Inv-loop buf₀ out₀ s₀ k₀ buf out s k = k ≤ 1099511627776
 
 abbrev μ-loop : tie.MeasureT-loop
 μ-loop buf₀ out₀ s₀ k₀ buf out s k = 1099511627776 - k
+
+input-requires : tie.Need-input-requires Inv-loop μ-loop
+input-requires c κs = search needs
+
+lines-requires : tie.Need-lines-requires Inv-loop μ-loop
+lines-requires c κs = search needs
 
 slice-aggregate-buf : tie.Need-slice-aggregate-buf Inv-loop μ-loop
 slice-aggregate-buf c = search needs
@@ -44,10 +51,10 @@ flushed-requires-2 : tie.Need-flushed-requires-2 Inv-loop μ-loop
 flushed-requires-2 c κs = search needs
 
 loop-less : tie.Need-loop-less Inv-loop μ-loop
-loop-less c = search needs
+loop-less c = omega (arith, c .before .before .before .before .before .before .before .before .before .before .before .before .before .loop-test .taken)
 
 loop-again : tie.Need-loop-again Inv-loop μ-loop
-loop-again c = search needs
+loop-again c = omega (arith, c .before .before .before .before .before .before .before .before .before .before .before .before .before .loop-test .taken)
 
 returns : tie.Need-returns Inv-loop μ-loop
 returns c = search needs
@@ -61,6 +68,8 @@ main-spec =
     (tie.spec
     Inv-loop
     μ-loop
+    input-requires
+    lines-requires
     slice-aggregate-buf
     slice-aggregate-out
     fresh-requires
