@@ -24,6 +24,7 @@ use values::ConnectionId;
 use values::Counted;
 use values::Flagged;
 use values::Numbered;
+use values::ResetToken;
 use values::Token;
 use values::limits::MAX_DCID_LIMIT;
 use values::refusals::ACCEPTED;
@@ -197,15 +198,16 @@ pub fn add_dcid(
     s: Ids,
     cid: ConnectionId,
     seq: u64,
-    token: [u8; 16],
+    token: ResetToken,
     retire_prior_to: u64,
 ) -> RetiredOut
-    ensures { λ r. ⌜ r ≡ retiredCall s (idFormed cid) (C.AddDcid cid seq token «retire_prior_to») ⌝ }
+    ensures { λ r. ⌜ r ≡ retiredCall s (idFormed cid) (C.AddDcid cid seq (token .bytes) «retire_prior_to») ⌝ }
 {
+    let bytes = token.bytes;
     let f = ids_state::formed(s);
     let c = values::cid_formed(cid);
     if f & c {
-        adds::add_dcid_step(s, cid, seq, token, retire_prior_to)
+        adds::add_dcid_step(s, cid, seq, bytes, retire_prior_to)
     } else {
         adds::no_pairs(s, MALFORMED)
     }

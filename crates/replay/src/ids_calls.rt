@@ -6,6 +6,7 @@ use crate::record;
 use crate::record::Record;
 use crate::text;
 use ids_state::Ids;
+use values::ResetToken;
 
 // The state after a call, and the place after its line.
 pub struct IdsLine {
@@ -85,7 +86,8 @@ fn changed(s: Ids, r: Record, out: &mut [u8], at: usize) -> IdsLine {
     }
     if call == 0x2c {
         let bytes = token.bytes;
-        return retired(ids::add_dcid(s, id, r.n0, bytes, r.n1), call, out, at);
+        let key = ResetToken { bytes: bytes };
+        return retired(ids::add_dcid(s, id, r.n0, key, r.n1), call, out, at);
     }
     if call == 0x2d {
         return freed(ids::retire_scid(s, r.n0, id), call, out, at);

@@ -1,11 +1,14 @@
+// The published calls of the timers, over a state that the host lends: the answer is the call's answer, and the state is left as the call leaves it.
 ghost use mathlib.Core.Path.{_≡_};
-ghost use Rattle.timers.specs.Calls.{freshCall, getCall, isExpiredCall, nextTimeoutCall, setCall, stopCall};
+ghost use Rattle.timers.specs.Calls.{freshCall, getCall, isExpiredCall, nextTimeoutCall, setCall, stopCall, timedAt};
+ghost use mathlib.Core.Option.{none};
 use timers::TimerTable;
-use timers::TimersOut;
+use values::Done;
 use values::Flagged;
 use values::Moment;
 use values::Timed;
 
+// A table with no timer set.
 #[no_mangle]
 pub extern "C" fn vig_timers_fresh() -> TimerTable
     ensures { λ r. ⌜ r ≡ freshCall ⌝ }
@@ -13,37 +16,46 @@ pub extern "C" fn vig_timers_fresh() -> TimerTable
     timers::fresh()
 }
 
+// Sets the timer's deadline.
 #[no_mangle]
-pub extern "C" fn vig_timers_set(t: TimerTable, timer: u64, at: Moment) -> TimersOut
-    ensures { λ r. ⌜ r ≡ setCall t timer at ⌝ }
+pub extern "C" fn vig_timers_set(t: &mut TimerTable, timer: u64, at: Moment) -> Done
+    ensures { λ r. ⌜ (r ≡ (setCall (now (t .entry)) timer at) .answer) × (now (t .exit) ≡ (setCall (now (t .entry)) timer at) .timers) ⌝ }
 {
-    timers::set(t, timer, at)
+    let a = timers::set(*t, timer, at);
+    *t = a.timers;
+    a.answer
 }
 
+// The timer's deadline, if it is set.
 #[no_mangle]
-pub extern "C" fn vig_timers_get(t: TimerTable, timer: u64) -> Timed
-    ensures { λ r. ⌜ r ≡ getCall t timer ⌝ }
+pub extern "C" fn vig_timers_get(t: &TimerTable, timer: u64) -> Timed
+    ensures { λ r. ⌜ r ≡ getCall (now (t .entry)) timer ⌝ }
 {
-    timers::get(t, timer)
+    timers::get(*t, timer)
 }
 
+// The timer isn't set any more.
 #[no_mangle]
-pub extern "C" fn vig_timers_stop(t: TimerTable, timer: u64) -> TimersOut
-    ensures { λ r. ⌜ r ≡ stopCall t timer ⌝ }
+pub extern "C" fn vig_timers_stop(t: &mut TimerTable, timer: u64) -> Done
+    ensures { λ r. ⌜ (r ≡ (stopCall (now (t .entry)) timer) .answer) × (now (t .exit) ≡ (stopCall (now (t .entry)) timer) .timers) ⌝ }
 {
-    timers::stop(t, timer)
+    let a = timers::stop(*t, timer);
+    *t = a.timers;
+    a.answer
 }
 
+// The least deadline that is set.
 #[no_mangle]
-pub extern "C" fn vig_timers_next_timeout(t: TimerTable) -> Timed
-    ensures { λ r. ⌜ r ≡ nextTimeoutCall t ⌝ }
+pub extern "C" fn vig_timers_next_timeout(t: &TimerTable) -> Timed
+    ensures { λ r. ⌜ r ≡ nextTimeoutCall (now (t .entry)) ⌝ }
 {
-    timers::next_timeout(t)
+    timers::next_timeout(*t)
 }
 
+// Whether the timer is set, and its deadline is not after now.
 #[no_mangle]
-pub extern "C" fn vig_timers_is_expired(t: TimerTable, timer: u64, now: Moment) -> Flagged
-    ensures { λ r. ⌜ r ≡ isExpiredCall t timer now ⌝ }
+pub extern "C" fn vig_timers_is_expired(t: &TimerTable, timer: u64, moment: Moment) -> Flagged
+    ensures { λ r. ⌜ r ≡ isExpiredCall (now (t .entry)) timer moment ⌝ }
 {
-    timers::is_expired(t, timer, now)
+    timers::is_expired(*t, timer, moment)
 }

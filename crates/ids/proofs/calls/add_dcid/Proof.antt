@@ -20,7 +20,7 @@ cid-formed-requires c κs = search needs
 
 add-dcid-step-requires : tie.Need-add-dcid-step-requires
 add-dcid-step-requires c κs =
-    let a = c .before .before .before .args in
+    let a = c .before .before .before .before .args in
     and-both (wellFormed (a .s)) (idFormed (a .cid)) (id-test (a .s) _ (c .before .before .formed .ensures) (a .cid) _ (c .before .cid-formed .ensures) true (c .if1 .taken))
 
 no-pairs-requires : tie.Need-no-pairs-requires
@@ -28,13 +28,13 @@ no-pairs-requires c κs = search needs
 
 returns : tie.Need-returns
 returns c =
-    let a = c .before .before .before .before .args in
-    c .add-dcid-step .ensures ∙ chosen (a .s) (idFormed (a .cid)) (retiredOf (step (view (a .s)) (AddDcid (a .cid) (a .seq) (a .token) (a .retire-prior-to)))) (retiredAt 1 [] (a .s)) true (id-test (a .s) _ (c .before .before .before .formed .ensures) (a .cid) _ (c .before .before .cid-formed .ensures) true (c .before .if1 .taken))
+    let a = c .before .before .before .before .before .args in
+    c .add-dcid-step .ensures ∙ chosen (a .s) (idFormed (a .cid)) (retiredOf (step (view (a .s)) (AddDcid (a .cid) (a .seq) (a .token .bytes) (a .retire-prior-to)))) (retiredAt 1 [] (a .s)) true (id-test (a .s) _ (c .before .before .before .formed .ensures) (a .cid) _ (c .before .before .cid-formed .ensures) true (c .before .if1 .taken))
 
 returns-2 : tie.Need-returns-2
 returns-2 c =
-    let a = c .before .before .before .before .args in
-    c .no-pairs .ensures ∙ chosen (a .s) (idFormed (a .cid)) (retiredOf (step (view (a .s)) (AddDcid (a .cid) (a .seq) (a .token) (a .retire-prior-to)))) (retiredAt 1 [] (a .s)) false (id-test (a .s) _ (c .before .before .before .formed .ensures) (a .cid) _ (c .before .before .cid-formed .ensures) false (c .before .if1 .left))
+    let a = c .before .before .before .before .before .args in
+    c .no-pairs .ensures ∙ chosen (a .s) (idFormed (a .cid)) (retiredOf (step (view (a .s)) (AddDcid (a .cid) (a .seq) (a .token .bytes) (a .retire-prior-to)))) (retiredAt 1 [] (a .s)) false (id-test (a .s) _ (c .before .before .before .formed .ensures) (a .cid) _ (c .before .before .cid-formed .ensures) false (c .before .if1 .left))
 
 pub add-dcid-spec : {M : Type 1} → statement M
 add-dcid-spec = tie.close (tie.spec formed-requires cid-formed-requires add-dcid-step-requires no-pairs-requires returns returns-2)

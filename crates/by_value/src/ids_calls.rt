@@ -1,0 +1,224 @@
+// The published calls of the IDs, by value.
+ghost use mathlib.Core.Path.{_≡_};
+ghost use mathlib.Core.Bool.{true, _&&_};
+ghost use Rattle.lists.specs.Defs.{given};
+ghost use Rattle.values.specs.Cid.{idFormed};
+ghost use Rattle.values.specs.Token.{tokenFormed, tokenView};
+ghost use Rattle.ids_rules.specs.Calls as C;
+ghost use Rattle.ids.specs.Reading.{countedCall, doneCall, flaggedCall, foundCall, frameCall, freedCall, freshIds, issuedCall, itemCall, numberedCall, pathFormed, retiredCall};
+use ids::DoneOut;
+use ids::FoundAnswer;
+use ids::FrameAnswer;
+use ids::FreedOut;
+use ids::IssuedOut;
+use ids::ItemAnswer;
+use ids::RetiredOut;
+use ids_state::Ids;
+use values::ConnectionId;
+use values::Counted;
+use values::Flagged;
+use values::Numbered;
+use values::ResetToken;
+use values::Token;
+
+#[no_mangle]
+pub extern "C" fn val_ids_fresh(dlimit: u64, cid: ConnectionId, path: u64, token: Token) -> DoneOut
+    ensures { λ r. ⌜ r ≡ freshIds dlimit cid path token ⌝ }
+{
+    ids::fresh(dlimit, cid, path, token)
+}
+
+#[no_mangle]
+pub extern "C" fn val_ids_set_initial_dcid(
+    s: Ids,
+    cid: ConnectionId,
+    token: Token,
+    has: bool,
+    path: u64,
+) -> DoneOut
+    ensures { λ r. ⌜ r ≡ doneCall s (idFormed cid && tokenFormed token && pathFormed has path) (C.SetInitialDcid cid (tokenView token) (given has path)) ⌝ }
+{
+    ids::set_initial_dcid(s, cid, token, has, path)
+}
+
+#[no_mangle]
+pub extern "C" fn val_ids_set_scid_limit(s: Ids, n: u64) -> DoneOut
+    ensures { λ r. ⌜ r ≡ doneCall s true (C.SetScidLimit n) ⌝ }
+{
+    ids::set_scid_limit(s, n)
+}
+
+#[no_mangle]
+pub extern "C" fn val_ids_get_scid(s: Ids, seq: u64) -> ItemAnswer
+    ensures { λ r. ⌜ r ≡ itemCall s (C.GetScid seq) ⌝ }
+{
+    ids::get_scid(s, seq)
+}
+
+#[no_mangle]
+pub extern "C" fn val_ids_get_dcid(s: Ids, seq: u64) -> ItemAnswer
+    ensures { λ r. ⌜ r ≡ itemCall s (C.GetDcid seq) ⌝ }
+{
+    ids::get_dcid(s, seq)
+}
+
+#[no_mangle]
+pub extern "C" fn val_ids_find_scid(s: Ids, cid: ConnectionId) -> FoundAnswer
+    ensures { λ r. ⌜ r ≡ foundCall s (idFormed cid) (C.FindScid cid) ⌝ }
+{
+    ids::find_scid(s, cid)
+}
+
+#[no_mangle]
+pub extern "C" fn val_ids_mark_scid_used(s: Ids, seq: u64, path: u64) -> DoneOut
+    ensures { λ r. ⌜ r ≡ doneCall s true (C.MarkScidUsed seq path) ⌝ }
+{
+    ids::mark_scid_used(s, seq, path)
+}
+
+#[no_mangle]
+pub extern "C" fn val_ids_mark_dcid_used(s: Ids, seq: u64, path: u64) -> DoneOut
+    ensures { λ r. ⌜ r ≡ doneCall s true (C.MarkDcidUsed seq path) ⌝ }
+{
+    ids::mark_dcid_used(s, seq, path)
+}
+
+#[no_mangle]
+pub extern "C" fn val_ids_unused_scids(s: Ids) -> Counted
+    ensures { λ r. ⌜ r ≡ countedCall s C.UnusedScids ⌝ }
+{
+    ids::unused_scids(s)
+}
+
+#[no_mangle]
+pub extern "C" fn val_ids_unused_dcids(s: Ids) -> Counted
+    ensures { λ r. ⌜ r ≡ countedCall s C.UnusedDcids ⌝ }
+{
+    ids::unused_dcids(s)
+}
+
+#[no_mangle]
+pub extern "C" fn val_ids_lowest_unused_dcid_seq(s: Ids) -> Numbered
+    ensures { λ r. ⌜ r ≡ numberedCall s C.LowestUnusedDcidSeq ⌝ }
+{
+    ids::lowest_unused_dcid_seq(s)
+}
+
+#[no_mangle]
+pub extern "C" fn val_ids_add_scid(
+    s: Ids,
+    cid: ConnectionId,
+    token: Token,
+    advertise: bool,
+    has: bool,
+    path: u64,
+    leave: bool,
+) -> IssuedOut
+    ensures { λ r. ⌜ r ≡ issuedCall s (idFormed cid && tokenFormed token && pathFormed has path) (C.AddScid cid (tokenView token) advertise (given has path) leave) ⌝ }
+{
+    ids::add_scid(s, cid, token, advertise, has, path, leave)
+}
+
+#[no_mangle]
+pub extern "C" fn val_ids_add_dcid(
+    s: Ids,
+    cid: ConnectionId,
+    seq: u64,
+    token: ResetToken,
+    retire_prior_to: u64,
+) -> RetiredOut
+    ensures { λ r. ⌜ r ≡ retiredCall s (idFormed cid) (C.AddDcid cid seq (token .bytes) «retire_prior_to») ⌝ }
+{
+    ids::add_dcid(s, cid, seq, token, retire_prior_to)
+}
+
+#[no_mangle]
+pub extern "C" fn val_ids_retire_scid(s: Ids, seq: u64, packet: ConnectionId) -> FreedOut
+    ensures { λ r. ⌜ r ≡ freedCall s (idFormed packet) (C.RetireScid seq packet) ⌝ }
+{
+    ids::retire_scid(s, seq, packet)
+}
+
+#[no_mangle]
+pub extern "C" fn val_ids_mark_scid_to_advertise(s: Ids, seq: u64, on: bool) -> DoneOut
+    ensures { λ r. ⌜ r ≡ doneCall s true (C.MarkScidToAdvertise seq on) ⌝ }
+{
+    ids::mark_scid_to_advertise(s, seq, on)
+}
+
+#[no_mangle]
+pub extern "C" fn val_ids_mark_dcid_to_retire(s: Ids, seq: u64, on: bool) -> DoneOut
+    ensures { λ r. ⌜ r ≡ doneCall s true (C.MarkDcidToRetire seq on) ⌝ }
+{
+    ids::mark_dcid_to_retire(s, seq, on)
+}
+
+#[no_mangle]
+pub extern "C" fn val_ids_next_scid_to_advertise(s: Ids) -> Numbered
+    ensures { λ r. ⌜ r ≡ numberedCall s C.NextScidToAdvertise ⌝ }
+{
+    ids::next_scid_to_advertise(s)
+}
+
+#[no_mangle]
+pub extern "C" fn val_ids_next_dcid_to_retire(s: Ids) -> Numbered
+    ensures { λ r. ⌜ r ≡ numberedCall s C.NextDcidToRetire ⌝ }
+{
+    ids::next_dcid_to_retire(s)
+}
+
+#[no_mangle]
+pub extern "C" fn val_ids_create_new_connection_id_frame(s: Ids, seq: u64) -> FrameAnswer
+    ensures { λ r. ⌜ r ≡ frameCall s (C.CreateNewConnectionIdFrame seq) ⌝ }
+{
+    ids::create_new_connection_id_frame(s, seq)
+}
+
+#[no_mangle]
+pub extern "C" fn val_ids_need_send_cid_control_frames(s: Ids) -> Flagged
+    ensures { λ r. ⌜ r ≡ flaggedCall s C.NeedSendCidControlFrames ⌝ }
+{
+    ids::need_send_cid_control_frames(s)
+}
+
+#[no_mangle]
+pub extern "C" fn val_ids_zero_length_scid(s: Ids) -> Flagged
+    ensures { λ r. ⌜ r ≡ flaggedCall s C.ZeroLengthScid ⌝ }
+{
+    ids::zero_length_scid(s)
+}
+
+#[no_mangle]
+pub extern "C" fn val_ids_zero_length_dcid(s: Ids) -> Flagged
+    ensures { λ r. ⌜ r ≡ flaggedCall s C.ZeroLengthDcid ⌝ }
+{
+    ids::zero_length_dcid(s)
+}
+
+#[no_mangle]
+pub extern "C" fn val_ids_scid_count(s: Ids) -> Counted
+    ensures { λ r. ⌜ r ≡ countedCall s C.ScidCount ⌝ }
+{
+    ids::scid_count(s)
+}
+
+#[no_mangle]
+pub extern "C" fn val_ids_scid_at(s: Ids, place: u64) -> ItemAnswer
+    ensures { λ r. ⌜ r ≡ itemCall s (C.ScidAt place) ⌝ }
+{
+    ids::scid_at(s, place)
+}
+
+#[no_mangle]
+pub extern "C" fn val_ids_dcid_count(s: Ids) -> Counted
+    ensures { λ r. ⌜ r ≡ countedCall s C.DcidCount ⌝ }
+{
+    ids::dcid_count(s)
+}
+
+#[no_mangle]
+pub extern "C" fn val_ids_dcid_at(s: Ids, place: u64) -> ItemAnswer
+    ensures { λ r. ⌜ r ≡ itemCall s (C.DcidAt place) ⌝ }
+{
+    ids::dcid_at(s, place)
+}

@@ -1,0 +1,264 @@
+// The published calls of the ids, over a state that the host lends: the answer is the call's answer, and the state is left as the call leaves it.
+ghost use mathlib.Core.Path.{_≡_};
+ghost use mathlib.Core.Bool.{true, _&&_};
+ghost use Rattle.lists.specs.Defs.{given};
+ghost use Rattle.values.specs.Cid.{idFormed};
+ghost use Rattle.values.specs.Token.{tokenFormed, tokenView};
+ghost use Rattle.ids_rules.specs.Calls as C;
+ghost use Rattle.ids.specs.Reading.{countedCall, doneCall, flaggedCall, foundCall, frameCall, freedCall, freshIds, issuedCall, itemCall, numberedCall, pathFormed, retiredCall};
+use ids::DoneOut;
+use ids::FoundAnswer;
+use ids::FrameAnswer;
+use ids::ItemAnswer;
+use ids::RetiredAnswer;
+use ids_state::Ids;
+use values::ConnectionId;
+use values::Counted;
+use values::Done;
+use values::Flagged;
+use values::Numbered;
+use values::ResetToken;
+use values::Token;
+
+// One source ID, with sequence 0, on its path. A refused call gives the all-zero state.
+#[no_mangle]
+pub extern "C" fn vig_ids_fresh(dlimit: u64, cid: ConnectionId, path: u64, token: Token) -> DoneOut
+    ensures { λ r. ⌜ r ≡ freshIds dlimit cid path token ⌝ }
+{
+    ids::fresh(dlimit, cid, path, token)
+}
+
+// The destination table holds the ID alone, with sequence 0.
+#[no_mangle]
+pub extern "C" fn vig_ids_set_initial_dcid(
+    t: &mut Ids,
+    cid: ConnectionId,
+    token: Token,
+    has: bool,
+    path: u64,
+) -> Done
+    ensures { λ r. ⌜ (r ≡ (doneCall (now (t .entry)) (idFormed cid && tokenFormed token && pathFormed has path) (C.SetInitialDcid cid (tokenView token) (given has path))) .answer) × (now (t .exit) ≡ (doneCall (now (t .entry)) (idFormed cid && tokenFormed token && pathFormed has path) (C.SetInitialDcid cid (tokenView token) (given has path))) .ids) ⌝ }
+{
+    let a = ids::set_initial_dcid(*t, cid, token, has, path);
+    *t = a.ids;
+    a.answer
+}
+
+// The most source IDs that the peer allows, clamped to 2..16.
+#[no_mangle]
+pub extern "C" fn vig_ids_set_scid_limit(t: &mut Ids, n: u64) -> Done
+    ensures { λ r. ⌜ (r ≡ (doneCall (now (t .entry)) true (C.SetScidLimit n)) .answer) × (now (t .exit) ≡ (doneCall (now (t .entry)) true (C.SetScidLimit n)) .ids) ⌝ }
+{
+    let a = ids::set_scid_limit(*t, n);
+    *t = a.ids;
+    a.answer
+}
+
+// The source item with the sequence.
+#[no_mangle]
+pub extern "C" fn vig_ids_get_scid(t: &Ids, seq: u64) -> ItemAnswer
+    ensures { λ r. ⌜ r ≡ itemCall (now (t .entry)) (C.GetScid seq) ⌝ }
+{
+    ids::get_scid(*t, seq)
+}
+
+// The destination item with the sequence.
+#[no_mangle]
+pub extern "C" fn vig_ids_get_dcid(t: &Ids, seq: u64) -> ItemAnswer
+    ensures { λ r. ⌜ r ≡ itemCall (now (t .entry)) (C.GetDcid seq) ⌝ }
+{
+    ids::get_dcid(*t, seq)
+}
+
+// The sequence and the path of the first source item with the ID.
+#[no_mangle]
+pub extern "C" fn vig_ids_find_scid(t: &Ids, cid: ConnectionId) -> FoundAnswer
+    ensures { λ r. ⌜ r ≡ foundCall (now (t .entry)) (idFormed cid) (C.FindScid cid) ⌝ }
+{
+    ids::find_scid(*t, cid)
+}
+
+// The source item is used by the path.
+#[no_mangle]
+pub extern "C" fn vig_ids_mark_scid_used(t: &mut Ids, seq: u64, path: u64) -> Done
+    ensures { λ r. ⌜ (r ≡ (doneCall (now (t .entry)) true (C.MarkScidUsed seq path)) .answer) × (now (t .exit) ≡ (doneCall (now (t .entry)) true (C.MarkScidUsed seq path)) .ids) ⌝ }
+{
+    let a = ids::mark_scid_used(*t, seq, path);
+    *t = a.ids;
+    a.answer
+}
+
+// The destination item is used by the path.
+#[no_mangle]
+pub extern "C" fn vig_ids_mark_dcid_used(t: &mut Ids, seq: u64, path: u64) -> Done
+    ensures { λ r. ⌜ (r ≡ (doneCall (now (t .entry)) true (C.MarkDcidUsed seq path)) .answer) × (now (t .exit) ≡ (doneCall (now (t .entry)) true (C.MarkDcidUsed seq path)) .ids) ⌝ }
+{
+    let a = ids::mark_dcid_used(*t, seq, path);
+    *t = a.ids;
+    a.answer
+}
+
+// How many source IDs no path uses.
+#[no_mangle]
+pub extern "C" fn vig_ids_unused_scids(t: &Ids) -> Counted
+    ensures { λ r. ⌜ r ≡ countedCall (now (t .entry)) C.UnusedScids ⌝ }
+{
+    ids::unused_scids(*t)
+}
+
+// How many destination IDs no path uses: none where they have zero length.
+#[no_mangle]
+pub extern "C" fn vig_ids_unused_dcids(t: &Ids) -> Counted
+    ensures { λ r. ⌜ r ≡ countedCall (now (t .entry)) C.UnusedDcids ⌝ }
+{
+    ids::unused_dcids(*t)
+}
+
+// The lowest destination sequence that no path uses.
+#[no_mangle]
+pub extern "C" fn vig_ids_lowest_unused_dcid_seq(t: &Ids) -> Numbered
+    ensures { λ r. ⌜ r ≡ numberedCall (now (t .entry)) C.LowestUnusedDcidSeq ⌝ }
+{
+    ids::lowest_unused_dcid_seq(*t)
+}
+
+// A new source ID, at the end of the table: the answer is its sequence.
+#[no_mangle]
+pub extern "C" fn vig_ids_add_scid(
+    t: &mut Ids,
+    cid: ConnectionId,
+    token: Token,
+    advertise: bool,
+    has: bool,
+    path: u64,
+    leave: bool,
+) -> Counted
+    ensures { λ r. ⌜ (r ≡ (issuedCall (now (t .entry)) (idFormed cid && tokenFormed token && pathFormed has path) (C.AddScid cid (tokenView token) advertise (given has path) leave)) .answer) × (now (t .exit) ≡ (issuedCall (now (t .entry)) (idFormed cid && tokenFormed token && pathFormed has path) (C.AddScid cid (tokenView token) advertise (given has path) leave)) .ids) ⌝ }
+{
+    let a = ids::add_scid(*t, cid, token, advertise, has, path, leave);
+    *t = a.ids;
+    a.answer
+}
+
+// A NEW_CONNECTION_ID frame: the answer is what it retired of the IDs in use.
+#[no_mangle]
+pub extern "C" fn vig_ids_add_dcid(
+    t: &mut Ids,
+    cid: ConnectionId,
+    seq: u64,
+    token: ResetToken,
+    retire_prior_to: u64,
+) -> RetiredAnswer
+    ensures { λ r. ⌜ (r ≡ (retiredCall (now (t .entry)) (idFormed cid) (C.AddDcid cid seq (token .bytes) «retire_prior_to»)) .answer) × (now (t .exit) ≡ (retiredCall (now (t .entry)) (idFormed cid) (C.AddDcid cid seq (token .bytes) «retire_prior_to»)) .ids) ⌝ }
+{
+    let a = ids::add_dcid(*t, cid, seq, token, retire_prior_to);
+    *t = a.ids;
+    a.answer
+}
+
+// A RETIRE_CONNECTION_ID frame: the answer is the path that used the ID.
+#[no_mangle]
+pub extern "C" fn vig_ids_retire_scid(t: &mut Ids, seq: u64, packet: ConnectionId) -> Numbered
+    ensures { λ r. ⌜ (r ≡ (freedCall (now (t .entry)) (idFormed packet) (C.RetireScid seq packet)) .answer) × (now (t .exit) ≡ (freedCall (now (t .entry)) (idFormed packet) (C.RetireScid seq packet)) .ids) ⌝ }
+{
+    let a = ids::retire_scid(*t, seq, packet);
+    *t = a.ids;
+    a.answer
+}
+
+// The source sequence is to be announced, or no longer.
+#[no_mangle]
+pub extern "C" fn vig_ids_mark_scid_to_advertise(t: &mut Ids, seq: u64, on: bool) -> Done
+    ensures { λ r. ⌜ (r ≡ (doneCall (now (t .entry)) true (C.MarkScidToAdvertise seq on)) .answer) × (now (t .exit) ≡ (doneCall (now (t .entry)) true (C.MarkScidToAdvertise seq on)) .ids) ⌝ }
+{
+    let a = ids::mark_scid_to_advertise(*t, seq, on);
+    *t = a.ids;
+    a.answer
+}
+
+// The destination sequence is to be retired, or no longer.
+#[no_mangle]
+pub extern "C" fn vig_ids_mark_dcid_to_retire(t: &mut Ids, seq: u64, on: bool) -> Done
+    ensures { λ r. ⌜ (r ≡ (doneCall (now (t .entry)) true (C.MarkDcidToRetire seq on)) .answer) × (now (t .exit) ≡ (doneCall (now (t .entry)) true (C.MarkDcidToRetire seq on)) .ids) ⌝ }
+{
+    let a = ids::mark_dcid_to_retire(*t, seq, on);
+    *t = a.ids;
+    a.answer
+}
+
+// The source sequence that is to be announced next.
+#[no_mangle]
+pub extern "C" fn vig_ids_next_scid_to_advertise(t: &Ids) -> Numbered
+    ensures { λ r. ⌜ r ≡ numberedCall (now (t .entry)) C.NextScidToAdvertise ⌝ }
+{
+    ids::next_scid_to_advertise(*t)
+}
+
+// The destination sequence that is to be retired next.
+#[no_mangle]
+pub extern "C" fn vig_ids_next_dcid_to_retire(t: &Ids) -> Numbered
+    ensures { λ r. ⌜ r ≡ numberedCall (now (t .entry)) C.NextDcidToRetire ⌝ }
+{
+    ids::next_dcid_to_retire(*t)
+}
+
+// The frame that announces the source ID.
+#[no_mangle]
+pub extern "C" fn vig_ids_create_new_connection_id_frame(t: &Ids, seq: u64) -> FrameAnswer
+    ensures { λ r. ⌜ r ≡ frameCall (now (t .entry)) (C.CreateNewConnectionIdFrame seq) ⌝ }
+{
+    ids::create_new_connection_id_frame(*t, seq)
+}
+
+// Whether one of the queues has an entry.
+#[no_mangle]
+pub extern "C" fn vig_ids_need_send_cid_control_frames(t: &Ids) -> Flagged
+    ensures { λ r. ⌜ r ≡ flaggedCall (now (t .entry)) C.NeedSendCidControlFrames ⌝ }
+{
+    ids::need_send_cid_control_frames(*t)
+}
+
+// Whether our first source ID was empty.
+#[no_mangle]
+pub extern "C" fn vig_ids_zero_length_scid(t: &Ids) -> Flagged
+    ensures { λ r. ⌜ r ≡ flaggedCall (now (t .entry)) C.ZeroLengthScid ⌝ }
+{
+    ids::zero_length_scid(*t)
+}
+
+// Whether the first destination ID was empty.
+#[no_mangle]
+pub extern "C" fn vig_ids_zero_length_dcid(t: &Ids) -> Flagged
+    ensures { λ r. ⌜ r ≡ flaggedCall (now (t .entry)) C.ZeroLengthDcid ⌝ }
+{
+    ids::zero_length_dcid(*t)
+}
+
+// In place of the Rust's iterators: the count of each table, and the item at a place.
+#[no_mangle]
+pub extern "C" fn vig_ids_scid_count(t: &Ids) -> Counted
+    ensures { λ r. ⌜ r ≡ countedCall (now (t .entry)) C.ScidCount ⌝ }
+{
+    ids::scid_count(*t)
+}
+
+#[no_mangle]
+pub extern "C" fn vig_ids_scid_at(t: &Ids, place: u64) -> ItemAnswer
+    ensures { λ r. ⌜ r ≡ itemCall (now (t .entry)) (C.ScidAt place) ⌝ }
+{
+    ids::scid_at(*t, place)
+}
+
+#[no_mangle]
+pub extern "C" fn vig_ids_dcid_count(t: &Ids) -> Counted
+    ensures { λ r. ⌜ r ≡ countedCall (now (t .entry)) C.DcidCount ⌝ }
+{
+    ids::dcid_count(*t)
+}
+
+#[no_mangle]
+pub extern "C" fn vig_ids_dcid_at(t: &Ids, place: u64) -> ItemAnswer
+    ensures { λ r. ⌜ r ≡ itemCall (now (t .entry)) (C.DcidAt place) ⌝ }
+{
+    ids::dcid_at(*t, place)
+}
