@@ -4,9 +4,9 @@ use std::mem::size_of;
 
 use super::timer::{Timer, TimerTable as Rust};
 use super::values::{Deadline, Done, Flagged, Moment, Timed};
-use crate::{accepted, instant, tested, times, Area, Instant, Row};
+use crate::{instant, Answer, Area, Call, Given, Instant, Row};
 
-#[derive(Clone, Copy)]
+#[derive(Clone, Copy, PartialEq)]
 #[repr(C)]
 struct TimerTable {
     expires: [Deadline; 9],
@@ -20,114 +20,138 @@ struct TimersOut {
 
 extern "C" {
     fn vig_timers_fresh() -> TimerTable;
-    fn vig_timers_set(t: TimerTable, timer: u64, at: Moment) -> TimersOut;
-    fn vig_timers_get(t: TimerTable, timer: u64) -> Timed;
-    fn vig_timers_stop(t: TimerTable, timer: u64) -> TimersOut;
-    fn vig_timers_next_timeout(t: TimerTable) -> Timed;
-    fn vig_timers_is_expired(t: TimerTable, timer: u64, now: Moment) -> Flagged;
+    fn vig_timers_set(t: &mut TimerTable, timer: u64, at: Moment) -> Done;
+    fn vig_timers_get(t: &TimerTable, timer: u64) -> Timed;
+    fn vig_timers_stop(t: &mut TimerTable, timer: u64) -> Done;
+    fn vig_timers_next_timeout(t: &TimerTable) -> Timed;
+    fn vig_timers_is_expired(t: &TimerTable, timer: u64, now: Moment) -> Flagged;
 }
 
-/// The table and the arguments of its calls.
-struct Given<Table, Timer, At> {
-    table: Table,
-    timer: Timer,
-    at: At,
+extern "C" {
+    fn val_timers_fresh() -> TimerTable;
+    fn val_timers_set(t: TimerTable, timer: u64, at: Moment) -> TimersOut;
+    fn val_timers_get(t: TimerTable, timer: u64) -> Timed;
+    fn val_timers_stop(t: TimerTable, timer: u64) -> TimersOut;
+    fn val_timers_next_timeout(t: TimerTable) -> Timed;
+    fn val_timers_is_expired(t: TimerTable, timer: u64, now: Moment) -> Flagged;
 }
 
-type Ours = Given<TimerTable, u64, Moment>;
+impl TimerTable {
+    fn formed(&self) -> bool {
+        self.expires.iter().all(Deadline::formed)
+    }
+
+    fn tuned(&self) -> bool {
+        let formed = |d: &Deadline| (d.at.us == 0) | (d.set & d.at.formed());
+        self.expires.iter().fold(true, |all, deadline| all & formed(deadline))
+    }
+}
+
+impl TimersOut {
+    fn into(self, table: &mut TimerTable) -> Done {
+        *table = self.timers;
+        self.answer
+    }
+}
 
 /// What is set at first, and the moment that the calls are given, in microseconds. The calls are given the second timer.
 const SET: [(Timer, u64); 3] = [(Timer::LossDetection, 250_000), (Timer::Idle, 30_000_000), (Timer::KeepAlive, 15_000_000)];
+const TIMER: Timer = SET[1].0;
 const AT: u64 = 40_000_000;
 
-fn ours() -> Ours {
+fn ours() -> TimerTable {
     let mut table = unsafe { vig_timers_fresh() };
     for (timer, us) in SET {
-        table = unsafe { vig_timers_set(table, timer as u64, Moment { us }) }.timers;
+        unsafe { vig_timers_set(&mut table, timer as u64, Moment { us }) };
     }
-    Given { table, timer: SET[1].0 as u64, at: Moment { us: AT } }
+    table
 }
 
-fn rust() -> Given<Rust, Timer, Instant> {
+fn rust() -> Rust {
     let mut table = Rust::default();
     for (timer, us) in SET {
         table.set(timer, instant(us));
     }
-    Given { table, timer: SET[1].0, at: instant(AT) }
+    table
 }
 
-/// What ours tests, in Rust.
-impl Ours {
-    fn formed(&self) -> bool {
-        self.table.expires.iter().all(Deadline::formed)
-    }
-
-    fn timer_formed(&self) -> bool {
-        self.formed() && self.timer < 9
-    }
-
-    fn all_formed(&self) -> bool {
-        self.timer_formed() && self.at.formed()
-    }
+fn seen(table: &Rust) -> TimerTable {
+    let deadline = |timer| match table.get(timer) {
+        Some(at) => Deadline { at: Moment { us: (at - instant(0)).as_micros() as u64 }, set: true },
+        None => Deadline { at: Moment { us: 0 }, set: false },
+    };
+    use Timer::*;
+    let all = [LossDetection, Ack, Pacer, Idle, Handshake, Draining, KeyDiscard, KeepAlive, PathChallenge];
+    TimerTable { expires: all.map(deadline) }
 }
-
-const DEFAULT: fn(usize) = |n| times(n, rust, |r| r.table = Rust::default());
 
 pub fn area() -> Area {
     let (ours, rust) = (size_of::<TimerTable>(), size_of::<Rust>());
-    let state = format!("{ours} bytes of state by value, the Rust's own {rust} bytes; 3 of 9 timers set");
-    Area { name: "timers", state, rows: rows() }
+    Area { name: "timers", state: format!("{ours} bytes of state, the Rust's own {rust}; 3 of 9 timers set"), rows: rows() }
+}
+
+/// The row of a call that is given a timer and a moment, of which `form` tests those that ours is given.
+fn row<Out: Answer, RustOut>(
+    name: &'static str,
+    form: impl Fn(u64, Moment) -> bool + Copy + 'static,
+    lent: impl Fn(&mut TimerTable, (u64, Moment)) -> Out + Copy + 'static,
+    by_value: impl Fn(&mut TimerTable, (u64, Moment)) -> Out + Copy + 'static,
+    rust: impl Fn(&mut Rust, (Timer, Instant)) -> RustOut + Copy + 'static,
+) -> Row {
+    let test = move |t: &TimerTable, &(timer, at): &(u64, Moment)| form(timer, at) && t.formed();
+    let tuned = move |t: &TimerTable, &(timer, at): &(u64, Moment)| form(timer, at) & t.tuned();
+    Call { name, test, tuned, lent, by_value, rust }.row(
+        Given { state: ours(), arguments: (TIMER as u64, Moment { us: AT }) },
+        || Given { state: self::rust(), arguments: (TIMER, instant(AT)) },
+        seen,
+    )
 }
 
 fn rows() -> Vec<Row> {
+    let fresh = Call {
+        name: "fresh",
+        test: |_: &TimerTable, _: &()| true,
+        tuned: |_: &TimerTable, _: &()| true,
+        lent: |t: &mut TimerTable, _| *t = unsafe { vig_timers_fresh() },
+        by_value: |t: &mut TimerTable, _| *t = unsafe { val_timers_fresh() },
+        rust: |t: &mut Rust, _: ()| *t = Rust::default(),
+    };
     vec![
-        Row {
-            call: "fresh",
-            ours: |n| times(n, ours, |o| o.table = unsafe { vig_timers_fresh() }),
-            rust: DEFAULT,
-            tested: DEFAULT,
-        },
-        Row {
-            call: "set",
-            ours: |n| {
-                accepted(times(n, ours, |o| {
-                    let out = unsafe { vig_timers_set(o.table, o.timer, o.at) };
-                    o.table = out.timers;
-                    out.answer.refusal
-                }))
-            },
-            rust: |n| times(n, rust, |r| r.table.set(r.timer, r.at)),
-            tested: |n| tested(n, ours, Ours::all_formed, rust, |r| r.table.set(r.timer, r.at)),
-        },
-        Row {
-            call: "stop",
-            ours: |n| {
-                accepted(times(n, ours, |o| {
-                    let out = unsafe { vig_timers_stop(o.table, o.timer) };
-                    o.table = out.timers;
-                    out.answer.refusal
-                }))
-            },
-            rust: |n| times(n, rust, |r| r.table.stop(r.timer)),
-            tested: |n| tested(n, ours, Ours::timer_formed, rust, |r| r.table.stop(r.timer)),
-        },
-        Row {
-            call: "get",
-            ours: |n| accepted(times(n, ours, |o| unsafe { vig_timers_get(o.table, o.timer) }).refusal),
-            rust: |n| _ = times(n, rust, |r| r.table.get(r.timer)),
-            tested: |n| tested(n, ours, Ours::timer_formed, rust, |r| r.table.get(r.timer)),
-        },
-        Row {
-            call: "next_timeout",
-            ours: |n| accepted(times(n, ours, |o| unsafe { vig_timers_next_timeout(o.table) }).refusal),
-            rust: |n| _ = times(n, rust, |r| r.table.next_timeout()),
-            tested: |n| tested(n, ours, Ours::formed, rust, |r| r.table.next_timeout()),
-        },
-        Row {
-            call: "is_expired",
-            ours: |n| accepted(times(n, ours, |o| unsafe { vig_timers_is_expired(o.table, o.timer, o.at) }).refusal),
-            rust: |n| _ = times(n, rust, |r| r.table.is_expired(r.timer, r.at)),
-            tested: |n| tested(n, ours, Ours::all_formed, rust, |r| r.table.is_expired(r.timer, r.at)),
-        },
+        fresh.row(Given { state: ours(), arguments: () }, || Given { state: rust(), arguments: () }, seen),
+        row(
+            "set",
+            |timer, at| timer < 9 && at.formed(),
+            |t, (timer, at)| unsafe { vig_timers_set(t, timer, at) },
+            |t, (timer, at)| unsafe { val_timers_set(*t, timer, at) }.into(t),
+            |t, (timer, at)| t.set(timer, at),
+        ),
+        row(
+            "stop",
+            |timer, _| timer < 9,
+            |t, (timer, _)| unsafe { vig_timers_stop(t, timer) },
+            |t, (timer, _)| unsafe { val_timers_stop(*t, timer) }.into(t),
+            |t, (timer, _)| t.stop(timer),
+        ),
+        row(
+            "get",
+            |timer, _| timer < 9,
+            |t, (timer, _)| unsafe { vig_timers_get(t, timer) },
+            |t, (timer, _)| unsafe { val_timers_get(*t, timer) },
+            |t, (timer, _)| t.get(timer),
+        ),
+        row(
+            "next_timeout",
+            |_, _| true,
+            |t, _| unsafe { vig_timers_next_timeout(t) },
+            |t, _| unsafe { val_timers_next_timeout(*t) },
+            |t, _| t.next_timeout(),
+        ),
+        row(
+            "is_expired",
+            |timer, now| timer < 9 && now.formed(),
+            |t, (timer, now)| unsafe { vig_timers_is_expired(t, timer, now) },
+            |t, (timer, now)| unsafe { val_timers_is_expired(*t, timer, now) },
+            |t, (timer, now)| t.is_expired(timer, now),
+        ),
     ]
 }

@@ -1,10 +1,10 @@
-//! The values and answers of ../crates/values, as the archive lays them out; and the rows of their call.
+//! The values and answers of ../crates/values, as the archives lay them out; and the rows of their call.
 
 use crate::error::Error;
-use crate::{times, Area, Row};
+use crate::{Answer, Area, Call, Given};
 
 /// Microseconds, at most MAX_MOMENT.
-#[derive(Clone, Copy)]
+#[derive(Clone, Copy, PartialEq)]
 #[repr(C)]
 pub struct Moment {
     pub us: u64,
@@ -12,30 +12,96 @@ pub struct Moment {
 
 pub const MAX_MOMENT: u64 = (1 << 63) - 1;
 
-#[derive(Clone, Copy)]
+#[derive(Clone, Copy, PartialEq)]
 #[repr(C)]
 pub struct Deadline {
     pub at: Moment,
     pub set: bool,
 }
 
+#[derive(Clone, Copy, PartialEq)]
+#[repr(C)]
+pub struct ConnectionId {
+    pub bytes: [u8; 20],
+    pub len: u8,
+}
+
+#[derive(Clone, Copy, PartialEq)]
+#[repr(C)]
+pub struct Token {
+    pub bytes: [u8; 16],
+    pub present: bool,
+}
+
+#[derive(Clone, Copy)]
+#[repr(C)]
+pub struct ResetToken {
+    pub bytes: [u8; 16],
+}
+
+#[derive(PartialEq)]
 #[repr(C)]
 pub struct Done {
     pub refusal: u8,
 }
 
+#[derive(PartialEq)]
 #[repr(C)]
 pub struct Flagged {
     pub refusal: u8,
     pub flag: bool,
 }
 
+#[derive(PartialEq)]
+#[repr(C)]
+pub struct Counted {
+    pub refusal: u8,
+    pub number: u64,
+}
+
+#[derive(PartialEq)]
+#[repr(C)]
+pub struct Numbered {
+    pub refusal: u8,
+    pub present: bool,
+    pub number: u64,
+}
+
+#[derive(PartialEq)]
 #[repr(C)]
 pub struct Timed {
     pub refusal: u8,
     pub deadline: Deadline,
 }
 
+/// Answers that begin with the refusal's number.
+#[macro_export]
+macro_rules! answers {
+    ($($answer:ty),*) => {
+        $(impl $crate::Answer for $answer {
+            fn refusal(&self) -> u8 {
+                self.refusal
+            }
+        })*
+    };
+}
+
+answers!(Done, Flagged, Counted, Numbered, Timed);
+
+/// A wire code, which no refusal goes with.
+impl Answer for u64 {
+    fn refusal(&self) -> u8 {
+        0
+    }
+}
+
+impl Answer for () {
+    fn refusal(&self) -> u8 {
+        0
+    }
+}
+
+/// The forms, plainly written.
 impl Moment {
     pub fn formed(self) -> bool {
         self.us <= MAX_MOMENT
@@ -49,23 +115,54 @@ impl Deadline {
     }
 }
 
+impl ConnectionId {
+    /// At most 20 bytes, and zeros past them.
+    pub fn formed(&self) -> bool {
+        self.len <= 20 && self.bytes[self.len as usize..].iter().all(|byte| *byte == 0)
+    }
+}
+
+impl Token {
+    /// One that is absent is zeros.
+    pub fn formed(&self) -> bool {
+        self.present || self.bytes == [0; 16]
+    }
+}
+
 #[link(name = "vignorasc", kind = "static")]
 extern "C" {
     fn vig_wire_code(number: u64) -> u64;
 }
 
-const NOTHING: fn(usize) = |n| times(n, || (), |_| ());
-const TO_WIRE: fn(usize) = |n| _ = times(n, || Error::ConnectionIdLimitError, |error| error.to_wire());
+#[link(name = "by_value", kind = "static")]
+extern "C" {
+    fn val_wire_code(number: u64) -> u64;
+}
 
 pub fn area() -> Area {
+    let nothing = Call {
+        name: "(the loop alone)",
+        test: |_: &(), _: &()| true,
+        tuned: |_: &(), _: &()| true,
+        lent: |_: &mut (), _| (),
+        by_value: |_: &mut (), _| (),
+        rust: |_: &mut (), _: ()| (),
+    };
+    let wire_code = Call {
+        name: "wire_code",
+        test: |_: &(), _: &u64| true,
+        tuned: |_: &(), _: &u64| true,
+        lent: |_: &mut (), number| unsafe { vig_wire_code(number) },
+        by_value: |_: &mut (), number| unsafe { val_wire_code(number) },
+        rust: |errors: &mut [Error; 1], _: ()| errors[0].to_wire(),
+    };
     let rows = vec![
-        Row { call: "(the loop alone)", ours: NOTHING, rust: NOTHING, tested: NOTHING },
-        Row {
-            call: "wire_code",
-            ours: |n| _ = times(n, || 3, |number| unsafe { vig_wire_code(*number) }),
-            rust: TO_WIRE,
-            tested: TO_WIRE,
-        },
+        nothing.row(Given { state: (), arguments: () }, || Given { state: (), arguments: () }, |_| ()),
+        wire_code.row(
+            Given { state: (), arguments: 3 },
+            || Given { state: [Error::ConnectionIdLimitError], arguments: () },
+            |_| (),
+        ),
     ];
     Area { name: "values", state: "no state, so that nothing is tested".into(), rows }
 }

@@ -1,0 +1,79 @@
+// A challenge is sent.
+ghost use mathlib.Core.Path.{_≡_};
+ghost use mathlib.Core.Bool.{true};
+ghost use Prim.Native.Nat.{_*_, _^_, _≤_, max};
+ghost use Rattle.values.specs.Limits.{initialChalTimeout, maxShift};
+ghost use Rattle.paths_state.specs.Formed.{pathFormed};
+ghost use Rattle.paths_rules.specs.Path.{send};
+ghost use Rattle.path.specs.Reading.{pathOf, pathView};
+ghost use Rattle.path.specs.SendLaws.{refusal};
+use crate::ranks::VALIDATING;
+use challenges::Challenge;
+use paths_state::Path;
+use values::Moment;
+use values::limits::INITIAL_CHAL_TIMEOUT;
+use values::limits::MAX_MOMENT;
+use values::limits::MAX_PATH_CHALS_SENT;
+use values::limits::MAX_SHIFT;
+use values::refusals::FAR_DEADLINE;
+use values::refusals::NO_SLOT;
+
+// Promotion only raises the rank.
+pub fn raised(rank: u8, to: u8) -> u8
+    ensures { λ r. ⌜ r ≡ max rank to ⌝ }
+{
+    if rank < to { to } else { rank }
+}
+
+// 25 ms, doubled for each challenge lost.
+fn back_off(lost: u64) -> u64
+    requires { ⌜ lost ≤ maxShift ⌝ }
+    ensures { λ r. ⌜ r ≡ initialChalTimeout * 2 ^ lost ⌝ }
+{
+    INITIAL_CHAL_TIMEOUT << lost
+}
+
+// 8: no deadline; 6: sixteen challenges stand; 0 otherwise.
+pub fn send_refusal(x: Path, now: Moment) -> u8
+    requires { ⌜ pathFormed x ≡ true ⌝ }
+    ensures { λ r. ⌜ r ≡ refusal (now .us) (pathView x) ⌝ }
+{
+    let lost = x.lost_chal;
+    if MAX_SHIFT < lost {
+        return FAR_DEADLINE;
+    }
+    if MAX_MOMENT < now.us {
+        return FAR_DEADLINE;
+    }
+    let wait = back_off(lost);
+    if MAX_MOMENT - now.us < wait {
+        return FAR_DEADLINE;
+    }
+    if MAX_PATH_CHALS_SENT <= x.sent_chals.count {
+        return NO_SLOT;
+    }
+    0
+}
+
+// It goes to the end.
+pub fn sent(x: Path, data: u64, size: u64, now: Moment) -> Path
+    requires { ⌜ (pathFormed x ≡ true) × (refusal (now .us) (pathView x) ≡ 0) ⌝ }
+    ensures { λ r. ⌜ r ≡ pathOf (send «data» size (now .us) (pathView x)) ⌝ }
+{
+    let lost = x.lost_chal;
+    let wait = back_off(lost);
+    let c = Challenge {
+        data: data,
+        size: size,
+        sent: now,
+        deadline: Moment { us: now.us + wait },
+    };
+    let s = x.sent_chals;
+    let p = challenges::sent_push(s, c);
+    let rank = raised(x.state, VALIDATING);
+    let mut u = x;
+    u.sent_chals = p;
+    u.state = rank;
+    u.need_send_challenge = false;
+    u
+}

@@ -1,0 +1,28 @@
+-- Laws of lists that the tables of paths need: a store in a padded array, a reading that changes every element, the first that passes.
+use Prim.Native.Nat.{ℕ, zero, suc, _-_, _<_}
+use mathlib.Core.Path.{_≡_, refl, sym, ap, _∙_}
+use mathlib.Core.List.{List, [], _∷_, _++_, map}
+use mathlib.Core.Bool.{Bool, true, cond}
+use mathlib.Core.Option.{Option, some}
+use native.Mathlib.Nat.{not-suc-le-zero, le-of-suc-le-suc}
+use lib.ListN.{length, set, getD, replicate, length-set}
+use lib.Seq.{set-append-left}
+use Rattle.lists.specs.Defs.{all, later, firstWith, padded}
+use Rattle.lists.specs.Bools.{and-both}
+
+pub set-padded : {A : Type 0} (n : ℕ) (z : A) (l : List A) (i : ℕ) (a : A) → i < length l → set (padded n z l) i a ≡ padded n z (set l i a)
+set-padded n z l i a h = set-append-left l (replicate (n - length l) z) i a h ∙ ap (λ (m : ℕ). set l i a ++ replicate (n - m) z) (sym (length-set l i a))
+
+pub all-at : {A : Type 0} (p : A → Bool) (d : A) (l : List A) (i : ℕ) → all p l ≡ true → i < length l → p (getD l i d) ≡ true
+all-at p d [] i e h = absurd (not-suc-le-zero h)
+all-at p d (x ∷ xs) zero e h = and-both (p x) (all p xs) e .0
+all-at p d (x ∷ xs) (suc i) e h = all-at p d xs i (and-both (p x) (all p xs) e .1) (le-of-suc-le-suc h)
+
+module _ {A B : Type 0} where
+  pub map-append : (f : A → B) (xs ys : List A) → map f (xs ++ ys) ≡ map f xs ++ map f ys
+  map-append f [] ys = refl
+  map-append f (x ∷ xs) ys = ap (λ (r : List B). f x ∷ r) (map-append f xs ys)
+
+  pub first-map : (f : A → B) (p : B → Bool) (l : List A) → firstWith p (map f l) ≡ firstWith (λ (x : A). p (f x)) l
+  first-map f p [] = refl
+  first-map f p (x ∷ xs) = ap (λ (o : Option ℕ). cond (p (f x)) (some 0) (later o)) (first-map f p xs)

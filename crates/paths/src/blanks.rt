@@ -1,0 +1,143 @@
+// Results that hold nothing beside the refusal.
+ghost use mathlib.Core.Path.{_≡_};
+ghost use mathlib.Core.List.{[]};
+ghost use mathlib.Core.Bool.{false};
+ghost use mathlib.Core.Option.{none};
+ghost use Rattle.challenges.specs.Challenges.{spansOf};
+ghost use Rattle.paths_rules.specs.Path as R;
+ghost use Rattle.paths.specs.Reading.{countedAt, doneAt, flaggedAt, foundAt, insertedAt, numberedAt, pathAnswerAt, poppedAt, respondedAt, timedAt};
+use crate::answers::DoneOut;
+use crate::answers::FoundAnswer;
+use crate::answers::InsertedOut;
+use crate::answers::PathAnswer;
+use crate::answers::PoppedOut;
+use crate::answers::RespondedAnswer;
+use crate::answers::RespondedOut;
+use challenges::Spans;
+use paths_state::Paths;
+use values::Counted;
+use values::Deadline;
+use values::Done;
+use values::Flagged;
+use values::Moment;
+use values::Numbered;
+use values::Span;
+use values::Timed;
+
+pub fn done(t: Paths, n: u8) -> DoneOut
+    ensures { λ r. ⌜ r ≡ doneAt n t ⌝ }
+{
+    DoneOut {
+        paths: t,
+        answer: Done { refusal: n },
+    }
+}
+
+pub fn inserted(t: Paths, n: u8, id: u64) -> InsertedOut
+    ensures { λ r. ⌜ r ≡ insertedAt n id t ⌝ }
+{
+    InsertedOut {
+        paths: t,
+        answer: Counted {
+            refusal: n,
+            number: id,
+        },
+    }
+}
+
+pub fn none_popped(t: Paths, n: u8) -> PoppedOut
+    ensures { λ r. ⌜ r ≡ poppedAt n none t ⌝ }
+{
+    PoppedOut {
+        paths: t,
+        answer: Numbered {
+            refusal: n,
+            present: false,
+            number: 0,
+        },
+    }
+}
+
+fn no_spans() -> Spans
+    ensures { λ r. ⌜ r ≡ spansOf [] ⌝ }
+{
+    Spans {
+        items: [Span { us: 0 }; 16],
+        count: 0,
+    }
+}
+
+pub fn not_responded(t: Paths, n: u8) -> RespondedOut
+    ensures { λ r. ⌜ r ≡ respondedAt n false [] t ⌝ }
+{
+    let s = no_spans();
+    RespondedOut {
+        paths: t,
+        answer: RespondedAnswer {
+            refusal: n,
+            yes: false,
+            spans: s,
+        },
+    }
+}
+
+pub fn no_count(n: u8) -> Counted
+    ensures { λ r. ⌜ r ≡ countedAt n 0 ⌝ }
+{
+    Counted {
+        refusal: n,
+        number: 0,
+    }
+}
+
+pub fn no_flag(n: u8) -> Flagged
+    ensures { λ r. ⌜ r ≡ flaggedAt n false ⌝ }
+{
+    Flagged {
+        refusal: n,
+        flag: false,
+    }
+}
+
+pub fn no_number(n: u8) -> Numbered
+    ensures { λ r. ⌜ r ≡ numberedAt n none ⌝ }
+{
+    Numbered {
+        refusal: n,
+        present: false,
+        number: 0,
+    }
+}
+
+pub fn no_deadline(n: u8) -> Timed
+    ensures { λ r. ⌜ r ≡ timedAt n none ⌝ }
+{
+    Timed {
+        refusal: n,
+        deadline: Deadline {
+            at: Moment { us: 0 },
+            set: false,
+        },
+    }
+}
+
+pub fn no_answer(n: u8) -> PathAnswer
+    ensures { λ r. ⌜ r ≡ pathAnswerAt n R.zeroPath ⌝ }
+{
+    let zero = paths_state::no_path();
+    PathAnswer {
+        refusal: n,
+        path: zero,
+    }
+}
+
+pub fn not_found(n: u8) -> FoundAnswer
+    ensures { λ r. ⌜ r ≡ foundAt n 0 R.zeroPath ⌝ }
+{
+    let zero = paths_state::no_path();
+    FoundAnswer {
+        refusal: n,
+        id: 0,
+        path: zero,
+    }
+}

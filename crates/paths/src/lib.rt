@@ -1,0 +1,47 @@
+// The paths of a QUIC endpoint, after the Rust's path.rs. calls.rt has the published calls; what a call does to a well-formed state stands in the
+// modules beside it. Every contract is an equation with the definition of `paths_rules` on the view of the state (specs/Reading.antt).
+mod answers;
+mod blanks;
+mod calls;
+mod changes;
+mod search;
+mod steps;
+
+pub use answers::AddressAnswer;
+pub use answers::DoneOut;
+pub use answers::FoundAnswer;
+pub use answers::InsertedOut;
+pub use answers::PathAnswer;
+pub use answers::PoppedOut;
+pub use answers::RespondedAnswer;
+pub use answers::RespondedOut;
+pub use calls::active;
+pub use calls::cmp_anti_ampl_limit;
+pub use calls::dec_anti_ampl_limit;
+pub use calls::enable_multipath;
+pub use calls::fresh;
+pub use calls::get;
+pub use calls::get_active;
+pub use calls::get_path_id;
+pub use calls::inc_anti_ampl_limit;
+pub use calls::initiate_path_chal;
+pub use calls::insert_path;
+pub use calls::len;
+pub use calls::local_addr;
+pub use calls::mark_ping;
+pub use calls::mark_verified;
+pub use calls::min_path_chal_timer;
+pub use calls::need_expand_padding_frames;
+pub use calls::need_send_validation_frames;
+pub use calls::on_path_chal_received;
+pub use calls::on_path_chal_sent;
+pub use calls::on_path_chal_timeout;
+pub use calls::on_path_resp_received;
+pub use calls::path_chal_initiated;
+pub use calls::pop_recv_chal;
+pub use calls::remote_addr;
+pub use calls::set_active;
+pub use calls::set_dcid_seq;
+pub use calls::set_scid_seq;
+pub use calls::state;
+pub use calls::validated;

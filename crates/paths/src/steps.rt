@@ -1,0 +1,170 @@
+// What the calls are made of: the first state, one path read or stored, and what a server's credit asks.
+ghost use mathlib.Core.Path.{_≡_};
+ghost use mathlib.Core.Bool.{cond, true};
+ghost use Prim.Native.Nat.{_<_, _≤_};
+ghost use lib.Dec.{eqb};
+ghost use lib.ListN.{set};
+ghost use Rattle.values.specs.Limits.{maxPaths};
+ghost use Rattle.paths_state.specs.Formed.{noAddress, pathFormed, wellFormed};
+ghost use Rattle.paths_rules.specs.Calls as C;
+ghost use Rattle.paths_rules.specs.Path as R;
+ghost use Rattle.paths_rules.specs.Table as T;
+ghost use Rattle.path.specs.Reading.{pathOf, pathView};
+ghost use Rattle.paths.specs.Reading.{foundOf, noPair, optionalPair, pathAnswerOf, pathsOf, putPaths, view};
+ghost use Rattle.paths.specs.CallLaws.{wishedAt};
+use crate::answers::FoundAnswer;
+use crate::answers::PathAnswer;
+use crate::blanks;
+use crate::search;
+use paths_state::Path;
+use paths_state::Paths;
+use values::Address;
+use values::Counted;
+use values::FourTuple;
+use values::refusals::ACCEPTED;
+use values::refusals::INTERNAL_ERROR;
+
+pub fn wide(x: u8) -> u64
+    ensures { λ r. ⌜ r ≡ x ⌝ }
+{
+    x as u64
+}
+
+// A refusal of an unknown id, where the call accepts one.
+pub fn excused(n: u8) -> u8
+    ensures { λ r. ⌜ r ≡ cond (eqb n 2) 0 n ⌝ }
+{
+    if n == INTERNAL_ERROR { ACCEPTED } else { n }
+}
+
+// The wish, of an unknown id; else nothing.
+pub fn wished(n: u8, wish: u64) -> Counted
+    ensures { λ r. ⌜ r ≡ wishedAt n wish ⌝ }
+{
+    if n == INTERNAL_ERROR {
+        return Counted {
+            refusal: ACCEPTED,
+            number: wish,
+        };
+    }
+    blanks::no_count(n)
+}
+
+fn zero_address(a: Address) -> bool
+    ensures { λ r. ⌜ r ≡ noAddress a ⌝ }
+{
+    let ip = a.ip;
+    let z = values::zero16(ip);
+    z & (a.flow == 0) & (a.scope == 0) & (a.port == 0) & (a.kind == 0)
+}
+
+fn zero_pair(p: FourTuple) -> bool
+    ensures { λ r. ⌜ r ≡ noPair p ⌝ }
+{
+    let l = p.local;
+    let m = p.remote;
+    let x = zero_address(l);
+    let y = zero_address(m);
+    x & y
+}
+
+// A pair of its form, or none: then it is zero.
+pub fn pair_or_none(has: bool, pair: FourTuple) -> bool
+    ensures { λ r. ⌜ r ≡ optionalPair has pair ⌝ }
+{
+    if has {
+        values::pair_formed(pair)
+    } else {
+        zero_pair(pair)
+    }
+}
+
+pub fn first_state(
+    pair: FourTuple,
+    max_datagram_size: u64,
+    limit: u64,
+    factor: u64,
+    server: bool,
+) -> Paths
+    ensures { λ r. ⌜ r ≡ pathsOf (T.fresh pair «max_datagram_size» limit factor server) ⌝ }
+{
+    let zero = paths_state::no_path();
+    let x = path::first_path(pair, max_datagram_size);
+    let mut items = [zero; 8];
+    items[0] = x;
+    Paths {
+        items: items,
+        count: 1,
+        max_paths: limit,
+        anti_ampl_factor: factor,
+        is_multipath: false,
+        is_server: server,
+    }
+}
+
+// The path with the id.
+pub fn at(t: Paths, id: u64) -> PathAnswer
+    requires { ⌜ wellFormed t ≡ true ⌝ }
+    ensures { λ r. ⌜ r ≡ pathAnswerOf (C.step (view t) (C.On id (C.Look C.Get))) ⌝ }
+{
+    let count = t.count as u64;
+    if id < count {
+        let i = id as usize;
+        let x = t.items[i];
+        return PathAnswer {
+            refusal: ACCEPTED,
+            path: x,
+        };
+    }
+    blanks::no_answer(INTERNAL_ERROR)
+}
+
+// The first path with the active flag.
+pub fn active_step(t: Paths) -> FoundAnswer
+    requires { ⌜ wellFormed t ≡ true ⌝ }
+    ensures { λ r. ⌜ r ≡ foundOf (C.step (view t) (C.Ask C.GetActive)) ⌝ }
+{
+    let f = search::first_flagged(t);
+    if f.present {
+        let id = f.number;
+        let i = id as usize;
+        let x = t.items[i];
+        return FoundAnswer {
+            refusal: ACCEPTED,
+            id: id,
+            path: x,
+        };
+    }
+    blanks::not_found(INTERNAL_ERROR)
+}
+
+// The state with another path at the id.
+pub fn stored(t: Paths, id: u64, x: Path) -> Paths
+    requires { ⌜ (id < t .count) × (t .count ≤ maxPaths) ⌝ }
+    ensures { λ r. ⌜ r ≡ putPaths (set (t .items) id x) (t .count) t ⌝ }
+{
+    let i = id as usize;
+    let mut u = t;
+    u.items[i] = x;
+    u
+}
+
+// Credit acts only on a server.
+pub fn credited(x: Path, server: bool, factor: u64, length: u64) -> Path
+    requires { ⌜ pathFormed x ≡ true ⌝ }
+    ensures { λ r. ⌜ r ≡ pathOf (cond server (R.gain factor length (pathView x)) (pathView x)) ⌝ }
+{
+    if server {
+        path::gained(x, factor, length)
+    } else {
+        x
+    }
+}
+
+// So does a charge.
+pub fn charged(x: Path, server: bool, length: u64) -> Path
+    requires { ⌜ pathFormed x ≡ true ⌝ }
+    ensures { λ r. ⌜ r ≡ pathOf (cond server (R.spend length (pathView x)) (pathView x)) ⌝ }
+{
+    if server { path::spent(x, length) } else { x }
+}

@@ -1,0 +1,46 @@
+//! Paths, connection IDs and timers for QUIC servers.
+//!
+//! The core behind this crate is written in Rattle, and every function of it is proved to meet its contract. It does what `cid.rs`, `path.rs` and `timer.rs` of
+//! tquic 1.6.0 do, under the same names. docs/RULES.md of the project says what each call answers and leaves; the docs here name its headings.
+//!
+//! Three states, [`Timers`], [`Ids`] and [`Paths`](crate::Paths), each of a fixed size, with no allocation in the core, no clock and no globals. Their
+//! fields can't be written from outside, so a state that a `fresh` accepted is never [`Refusal::Malformed`]. Each call answers `Result<_, Refusal>`. A refusal
+//! leaves what RULES.md names with it, mostly nothing changed.
+//!
+//! ```
+//! use vignorasc::{ConnectionId, Ids, Refusal, ResetToken};
+//!
+//! # fn main() -> Result<(), Refusal> {
+//! let mut ids = Ids::fresh(4, ConnectionId::new(b"server-0"), 0, Some(ResetToken([7; 16])))?;
+//! let seq = ids.add_scid(ConnectionId::new(b"server-1"), Some(ResetToken([8; 16])), true, None, false)?;
+//! assert_eq!(seq, 1);
+//! assert_eq!(ids.next_scid_to_advertise()?, Some(1));
+//!
+//! // The peer allows two by default, and nothing may be retired for a third.
+//! let third = ids.add_scid(ConnectionId::new(b"server-2"), Some(ResetToken([9; 16])), true, None, false);
+//! assert_eq!(third, Err(Refusal::ConnectionIdLimitError));
+//! # Ok(())
+//! # }
+//! ```
+//!
+//! `examples/migrate.rs` is a small server whose client changes its address in mid-push.
+
+#![cfg_attr(not(feature = "paths"), allow(dead_code))]
+
+mod ffi;
+mod ids;
+mod refusal;
+mod time;
+mod timers;
+mod values;
+
+#[cfg(feature = "paths")]
+mod paths;
+
+pub use ids::{Ids, Item, NewConnectionIdFrame};
+#[cfg(feature = "paths")]
+pub use paths::{Path, PathState, Paths, Response, SentChallenge};
+pub use refusal::Refusal;
+pub use time::{Clock, Moment, Span};
+pub use timers::{Timer, Timers};
+pub use values::{ConnectionId, FourTuple, ResetToken};

@@ -1,0 +1,130 @@
+use crate::{ffi, Moment, Refusal};
+
+/// The nine timers of a connection.
+#[derive(Clone, Copy, Debug, PartialEq, Eq, Hash)]
+pub enum Timer {
+    LossDetection = 0,
+    Ack = 1,
+    Pacer = 2,
+    Idle = 3,
+    Handshake = 4,
+    Draining = 5,
+    KeyDiscard = 6,
+    KeepAlive = 7,
+    PathChallenge = 8,
+}
+
+impl Timer {
+    pub const ALL: [Timer; 9] = [
+        Timer::LossDetection,
+        Timer::Ack,
+        Timer::Pacer,
+        Timer::Idle,
+        Timer::Handshake,
+        Timer::Draining,
+        Timer::KeyDiscard,
+        Timer::KeepAlive,
+        Timer::PathChallenge,
+    ];
+}
+
+/// Nine optional deadlines. RULES.md, "Timers".
+///
+/// ```
+/// use vignorasc::{Moment, Refusal, Timer, Timers};
+///
+/// # fn main() -> Result<(), Refusal> {
+/// let mut timers = Timers::fresh();
+/// timers.set(Timer::Idle, Moment::from_micros(30_000_000))?;
+/// timers.set(Timer::PathChallenge, Moment::from_micros(25_000))?;
+/// assert_eq!(timers.next_timeout()?, Some(Moment::from_micros(25_000)));
+/// assert!(timers.is_expired(Timer::PathChallenge, Moment::from_micros(25_000))?);
+/// timers.stop(Timer::PathChallenge)?;
+/// assert_eq!(timers.get(Timer::PathChallenge)?, None);
+///
+/// // No moment is later than 2^63 - 1.
+/// assert_eq!(timers.set(Timer::Ack, Moment::from_micros(u64::MAX)), Err(Refusal::Malformed));
+/// # Ok(())
+/// # }
+/// ```
+#[derive(Clone, PartialEq, Eq)]
+pub struct Timers(ffi::TimerTable);
+
+impl Timers {
+    /// No timer is set.
+    pub fn fresh() -> Timers {
+        Timers(unsafe { ffi::vig_timers_fresh() })
+    }
+
+    /// Sets the timer's deadline, whatever it had.
+    pub fn set(&mut self, timer: Timer, at: Moment) -> Result<(), Refusal> {
+        unsafe { ffi::vig_timers_set(&mut self.0, timer as u64, at.0) }.result()
+    }
+
+    /// The timer isn't set any more.
+    pub fn stop(&mut self, timer: Timer) -> Result<(), Refusal> {
+        unsafe { ffi::vig_timers_stop(&mut self.0, timer as u64) }.result()
+    }
+
+    /// The timer's deadline, if it is set.
+    pub fn get(&self, timer: Timer) -> Result<Option<Moment>, Refusal> {
+        unsafe { ffi::vig_timers_get(&self.0, timer as u64) }.result()
+    }
+
+    /// The least deadline that is set.
+    pub fn next_timeout(&self) -> Result<Option<Moment>, Refusal> {
+        unsafe { ffi::vig_timers_next_timeout(&self.0) }.result()
+    }
+
+    /// Whether the timer is set, and its deadline is not after `now`.
+    pub fn is_expired(&self, timer: Timer, now: Moment) -> Result<bool, Refusal> {
+        unsafe { ffi::vig_timers_is_expired(&self.0, timer as u64, now.0) }.result()
+    }
+}
+
+impl Default for Timers {
+    fn default() -> Timers {
+        Timers::fresh()
+    }
+}
+
+impl std::fmt::Debug for Timers {
+    fn fmt(&self, f: &mut std::fmt::Formatter<'_>) -> std::fmt::Result {
+        let set = Timer::ALL.iter().filter_map(|&timer| Some((timer, self.get(timer).ok()??)));
+        f.debug_map().entries(set).finish()
+    }
+}
+
+#[cfg(test)]
+mod tests {
+    use super::*;
+
+    /// Every field of the table is written by a call and read where C has it.
+    #[test]
+    fn every_deadline_comes_back() {
+        let mut timers = Timers::fresh();
+        for (i, timer) in Timer::ALL.into_iter().enumerate() {
+            timers.set(timer, Moment::from_micros(1 << (7 * i))).unwrap();
+        }
+        for (i, timer) in Timer::ALL.into_iter().enumerate() {
+            let at = Moment::from_micros(1 << (7 * i));
+            assert_eq!(timer as usize, i);
+            assert_eq!(timers.0.expires[i], ffi::Deadline { at: at.0, set: true });
+            assert_eq!(timers.get(timer), Ok(Some(at)));
+            assert_eq!(timers.next_timeout(), Ok(Some(at)));
+            assert_eq!(timers.is_expired(timer, at), Ok(true));
+            timers.stop(timer).unwrap();
+            assert_eq!(timers.get(timer), Ok(None));
+        }
+        assert_eq!(timers, Timers::fresh());
+    }
+
+    #[test]
+    fn a_refused_call_changes_nothing() {
+        let mut timers = Timers::fresh();
+        timers.set(Timer::Idle, Moment::MAX).unwrap();
+        let before = timers.clone();
+        assert_eq!(timers.set(Timer::Idle, Moment::from_micros(1 << 63)), Err(Refusal::Malformed));
+        assert_eq!(timers, before);
+    }
+}

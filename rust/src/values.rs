@@ -1,0 +1,156 @@
+use crate::ffi;
+use std::fmt;
+use std::hash::{Hash, Hasher};
+use std::net::{IpAddr, Ipv4Addr, Ipv6Addr, SocketAddr, SocketAddrV6};
+
+/// A connection ID of 0 to 20 bytes. RULES.md, "Values".
+///
+/// ```
+/// use vignorasc::ConnectionId;
+///
+/// assert_eq!(ConnectionId::new(b"cable").as_bytes(), b"cable");
+/// assert!(ConnectionId::empty().is_empty());
+/// // Longer input is cut, as in tquic.
+/// assert_eq!(ConnectionId::new(&[7; 30]).len(), 20);
+/// ```
+#[derive(Clone, Copy, PartialEq, Eq)]
+pub struct ConnectionId(pub(crate) ffi::ConnectionId);
+
+impl ConnectionId {
+    /// The most bytes of an ID (RFC 9000, 17.2).
+    pub const MAX_LEN: usize = 20;
+
+    /// The first 20 bytes, or all.
+    pub fn new(bytes: &[u8]) -> ConnectionId {
+        let len = bytes.len().min(Self::MAX_LEN);
+        let mut id = ConnectionId::empty();
+        id.0.bytes[..len].copy_from_slice(&bytes[..len]);
+        id.0.len = len as u8;
+        id
+    }
+
+    pub const fn empty() -> ConnectionId {
+        ConnectionId(ffi::ConnectionId { bytes: [0; 20], len: 0 })
+    }
+
+    pub fn as_bytes(&self) -> &[u8] {
+        &self.0.bytes[..self.len()]
+    }
+
+    pub fn len(&self) -> usize {
+        self.0.len.into()
+    }
+
+    pub fn is_empty(&self) -> bool {
+        self.0.len == 0
+    }
+}
+
+impl Hash for ConnectionId {
+    fn hash<H: Hasher>(&self, state: &mut H) {
+        self.as_bytes().hash(state)
+    }
+}
+
+/// In hexadecimal.
+impl fmt::Display for ConnectionId {
+    fn fmt(&self, f: &mut fmt::Formatter<'_>) -> fmt::Result {
+        self.as_bytes().iter().try_for_each(|byte| write!(f, "{byte:02x}"))
+    }
+}
+
+impl fmt::Debug for ConnectionId {
+    fn fmt(&self, f: &mut fmt::Formatter<'_>) -> fmt::Result {
+        write!(f, "ConnectionId({self})")
+    }
+}
+
+/// A stateless reset token: any 16 bytes.
+#[derive(Clone, Copy, PartialEq, Eq)]
+pub struct ResetToken(pub [u8; 16]);
+
+/// The bytes are a secret, which has no place in a log.
+impl fmt::Debug for ResetToken {
+    fn fmt(&self, f: &mut fmt::Formatter<'_>) -> fmt::Result {
+        f.write_str("ResetToken(..)")
+    }
+}
+
+pub(crate) fn token_in(token: Option<ResetToken>) -> ffi::Token {
+    ffi::Token { bytes: token.map_or([0; 16], |t| t.0), present: token.is_some() }
+}
+
+pub(crate) fn token_out(token: ffi::Token) -> Option<ResetToken> {
+    token.present.then_some(ResetToken(token.bytes))
+}
+
+/// An optional number, as a flag and a number that is 0 where there is none.
+pub(crate) fn split(number: Option<u64>) -> (bool, u64) {
+    (number.is_some(), number.unwrap_or(0))
+}
+
+/// Where a path begins and where it ends. Flow and scope of an IPv6 address count.
+#[derive(Clone, Copy, Debug, PartialEq, Eq, Hash)]
+pub struct FourTuple {
+    pub local: SocketAddr,
+    pub remote: SocketAddr,
+}
+
+pub(crate) fn address_in(a: SocketAddr) -> ffi::Address {
+    let mut ip = [0; 16];
+    let (flow, scope, kind) = match a {
+        SocketAddr::V4(v4) => {
+            ip[..4].copy_from_slice(&v4.ip().octets());
+            (0, 0, 4)
+        }
+        SocketAddr::V6(v6) => {
+            ip = v6.ip().octets();
+            (v6.flowinfo(), v6.scope_id(), 6)
+        }
+    };
+    ffi::Address { ip, flow, scope, port: a.port(), kind }
+}
+
+/// Of an address of its form, whose kind is 4 or 6.
+pub(crate) fn address_out(a: ffi::Address) -> SocketAddr {
+    match a.kind {
+        4 => SocketAddr::new(IpAddr::V4(Ipv4Addr::new(a.ip[0], a.ip[1], a.ip[2], a.ip[3])), a.port),
+        _ => SocketAddrV6::new(Ipv6Addr::from(a.ip), a.port, a.flow, a.scope).into(),
+    }
+}
+
+impl FourTuple {
+    pub(crate) fn to_core(self) -> ffi::FourTuple {
+        ffi::FourTuple { local: address_in(self.local), remote: address_in(self.remote) }
+    }
+
+    pub(crate) fn of_core(pair: ffi::FourTuple) -> FourTuple {
+        FourTuple { local: address_out(pair.local), remote: address_out(pair.remote) }
+    }
+}
+
+#[cfg(test)]
+mod tests {
+    use super::*;
+
+    #[test]
+    fn addresses_come_back() {
+        let v6 = SocketAddrV6::new(Ipv6Addr::new(0xfe80, 0, 0, 0, 1, 2, 3, 0xffff), 65535, 0x01020304, 0xfffefdfc);
+        for a in ["192.0.2.1:443".parse().unwrap(), "0.0.0.0:0".parse().unwrap(), "[::ffff:192.0.2.1]:443".parse().unwrap(), v6.into()] {
+            assert_eq!(address_out(address_in(a)), a);
+        }
+        let v4 = address_in("192.0.2.1:443".parse().unwrap());
+        let ip = [192, 0, 2, 1, 0, 0, 0, 0, 0, 0, 0, 0, 0, 0, 0, 0];
+        assert_eq!(v4, ffi::Address { ip, flow: 0, scope: 0, port: 443, kind: 4 });
+    }
+
+    #[test]
+    fn ids_are_cut_and_padded() {
+        let long: Vec<u8> = (1..=40).collect();
+        for n in 0..=40 {
+            let id = ConnectionId::new(&long[..n]);
+            assert_eq!(id.as_bytes(), &long[..n.min(20)]);
+            assert!(id.0.bytes[n.min(20)..].iter().all(|&byte| byte == 0));
+        }
+    }
+}
