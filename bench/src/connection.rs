@@ -34,10 +34,7 @@ pub mod cid {
                     seq: item.seq,
                     path: item.path_id.unwrap_or(0) as u64,
                     cid,
-                    token: Token {
-                        bytes: item.reset_token.unwrap_or(0).to_be_bytes(),
-                        present: item.reset_token.is_some(),
-                    },
+                    token: Token { bytes: item.reset_token.unwrap_or(0).to_be_bytes(), present: item.reset_token.is_some() },
                     has_path: item.path_id.is_some(),
                 }
             };

@@ -191,8 +191,9 @@ impl Ids {
             && self.rpt <= self.next // 11
             && self.advertise.count <= 128
             && self.retire.count <= 128 // 12
-            && [source, destination].iter().all(|table| table.formed()) // 9, 13, 14, 15
             && [&self.advertise, &self.retire].iter().all(|queue| queue.formed()) // 16
+            && source.formed()
+            && destination.formed()
     }
 }
 
@@ -206,6 +207,7 @@ impl Table {
         (1..live.len()).all(|i| live[..i].iter().all(|item| item.seq != live[i].seq && item.cid != live[i].cid))
     }
 
+    /// 9, 13, 14 and 15.
     fn formed(&self) -> bool {
         self.live().iter().all(Item::formed) && self.items[self.count..].iter().all(|item| *item == ZERO)
     }
@@ -213,10 +215,7 @@ impl Table {
 
 impl Item {
     fn formed(&self) -> bool {
-        (self.seq == 0 || self.token.present) // 9
-            && self.cid.formed() // 13
-            && self.token.formed()
-            && (self.has_path || self.path == 0) // 14
+        (self.seq == 0 || self.token.present) && self.cid.formed() && self.token.formed() && (self.has_path || self.path == 0)
     }
 }
 
@@ -531,12 +530,8 @@ fn rows(full: bool) -> Vec<Row> {
     let new = (id(SOURCE, 99), token(SOURCE, 99));
     let fresh = Call {
         name: "fresh",
-        test: |_: &Ids, (dlimit, cid, token): &(u64, Cid, Token)| {
-            (1..=16).contains(dlimit) && cid.formed() && token.formed()
-        },
-        tuned: |_: &Ids, (dlimit, cid, token): &(u64, Cid, Token)| {
-            (1..=16).contains(dlimit) & cid.formed() & token.formed()
-        },
+        test: |_: &Ids, (dlimit, cid, token): &(u64, Cid, Token)| (1..=16).contains(dlimit) && cid.formed() && token.formed(),
+        tuned: |_: &Ids, (dlimit, cid, token): &(u64, Cid, Token)| (1..=16).contains(dlimit) & cid.formed() & token.formed(),
         lent: |s: &mut Ids, (dlimit, cid, token)| unsafe { vig_ids_fresh(dlimit, cid, 0, token) }.into(s),
         by_value: |s: &mut Ids, (dlimit, cid, token)| unsafe { val_ids_fresh(dlimit, cid, 0, token) }.into(s),
         // What stood there before is not dropped.

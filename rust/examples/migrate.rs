@@ -105,6 +105,7 @@ impl Server {
             server.send()?;
             server.wait(&mut buffer)?;
         }
+        server.say("the push is acknowledged".into());
         Ok(server)
     }
 
@@ -192,7 +193,7 @@ impl Server {
                 }
                 // There are no packet numbers here to know a late one by: the client doesn't go back.
                 if id > self.current {
-                    self.say(format!("path {id}: the push goes there from {}, credit {}", self.acked, self.credit(id)?));
+                    self.say(format!("path {id}: the push goes there from {} (credit: {})", self.acked, self.credit(id)?));
                     self.current = id;
                     self.next = self.acked;
                 }
@@ -202,6 +203,10 @@ impl Server {
             }
             Frame::Challenge(data) => self.paths.on_path_chal_received(id, data)?,
             Frame::Response(data) => {
+                // The core takes the address for verified by any response (DIFFERENCES.md, D24). This server wants one that only this address can know.
+                if !self.paths.get(id)?.sent_chals.iter().any(|sent| sent.data == data) {
+                    return Ok(());
+                }
                 let response = self.paths.on_path_resp_received(id, data, self.clock.now())?;
                 let after: Vec<String> = response.spans.iter().map(|span| format!("{} us", span.as_micros())).collect();
                 let state = self.paths.state(id)?;
@@ -239,7 +244,7 @@ impl Server {
     /// For the log.
     fn credit(&self, id: usize) -> Result<String> {
         let path = self.paths.get(id)?;
-        Ok(if path.verified_peer_address { "without limit".into() } else { path.anti_ampl_limit.to_string() })
+        Ok(if path.verified_peer_address { "no limit".into() } else { path.anti_ampl_limit.to_string() })
     }
 
     /// The only place that sends: never more than the credit.
@@ -247,7 +252,7 @@ impl Server {
         if self.paths.cmp_anti_ampl_limit(id, bytes.len())? < bytes.len() {
             if self.held[id] == 0 {
                 let (length, sent) = (bytes.len(), self.sent[id]);
-                self.say(format!("path {id}: {sent} bytes sent, {length} held back, credit {}", self.credit(id)?));
+                self.say(format!("path {id}: {sent} bytes sent, {length} held back (credit: {})", self.credit(id)?));
             }
             self.held[id] += 1;
             return Ok(false);
@@ -265,8 +270,10 @@ impl Server {
 
     fn send(&mut self) -> Result<()> {
         for id in 0..self.paths.len()? {
-            if self.paths.need_send_validation_frames(id)? {
-                self.send_validation(id)?;
+            // Where the address is verified the core still asks for credit (DIFFERENCES.md, D30 and D31). This server sends all the same.
+            let verified = self.paths.get(id)?.verified_peer_address;
+            if verified || self.paths.need_send_validation_frames(id)? {
+                self.send_validation(id, verified)?;
             }
         }
         while let Some(seq) = self.ids.next_scid_to_advertise()? {
@@ -295,13 +302,19 @@ impl Server {
         Ok(())
     }
 
-    fn send_validation(&mut self, id: usize) -> Result<()> {
-        let expand = self.paths.need_expand_padding_frames(id)?;
+    fn send_validation(&mut self, id: usize, verified: bool) -> Result<()> {
+        let expand = verified || self.paths.need_expand_padding_frames(id)?;
+        let response = self.paths.pop_recv_chal(id)?;
+        // One asked for before the path was Validated is no longer wanted.
+        let wanted = self.paths.path_chal_initiated(id)? && !self.paths.validated(id)?;
+        let challenge = wanted.then(unpredictable);
+        if response.is_none() && challenge.is_none() {
+            return Ok(());
+        }
         let mut datagram = self.datagram_to(id)?;
-        if let Some(data) = self.paths.pop_recv_chal(id)? {
+        if let Some(data) = response {
             datagram = datagram.response(data);
         }
-        let challenge = self.paths.path_chal_initiated(id)?.then(unpredictable);
         if let Some(data) = challenge {
             datagram = datagram.challenge(data);
         }
@@ -313,7 +326,7 @@ impl Server {
         if self.datagram_out(id, &datagram.0)? {
             if let Some(data) = challenge {
                 self.paths.on_path_chal_sent(id, data, size, self.clock.now())?;
-                self.say(format!("path {id}: challenge in {size} bytes, credit was {credit}"));
+                self.say(format!("path {id}: challenge in {size} bytes (credit: {credit})"));
             }
         }
         Ok(())

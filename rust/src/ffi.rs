@@ -277,8 +277,17 @@ extern "C" {
     pub fn vig_ids_unused_scids(t: &Ids) -> Counted;
     pub fn vig_ids_unused_dcids(t: &Ids) -> Counted;
     pub fn vig_ids_lowest_unused_dcid_seq(t: &Ids) -> Numbered;
-    pub fn vig_ids_add_scid(t: &mut Ids, cid: ConnectionId, token: Token, advertise: bool, has: bool, path: u64, leave: bool) -> Counted;
-    pub fn vig_ids_add_dcid(t: &mut Ids, cid: ConnectionId, seq: u64, token: ResetToken, retire_prior_to: u64) -> RetiredAnswer;
+    pub fn vig_ids_add_scid(
+        t: &mut Ids,
+        cid: ConnectionId,
+        token: Token,
+        advertise: bool,
+        has: bool,
+        path: u64,
+        leave: bool,
+    ) -> Counted;
+    pub fn vig_ids_add_dcid(t: &mut Ids, cid: ConnectionId, seq: u64, token: ResetToken, retire_prior_to: u64)
+        -> RetiredAnswer;
     pub fn vig_ids_retire_scid(t: &mut Ids, seq: u64, packet: ConnectionId) -> Numbered;
     pub fn vig_ids_mark_scid_to_advertise(t: &mut Ids, seq: u64, on: bool) -> Done;
     pub fn vig_ids_mark_dcid_to_retire(t: &mut Ids, seq: u64, on: bool) -> Done;

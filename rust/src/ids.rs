@@ -50,7 +50,12 @@ impl Ids {
     }
 
     /// The destination table holds the ID alone, with sequence 0.
-    pub fn set_initial_dcid(&mut self, cid: ConnectionId, token: Option<ResetToken>, path: Option<usize>) -> Result<(), Refusal> {
+    pub fn set_initial_dcid(
+        &mut self,
+        cid: ConnectionId,
+        token: Option<ResetToken>,
+        path: Option<usize>,
+    ) -> Result<(), Refusal> {
         let (has, path) = split(path.map(|id| id as u64));
         unsafe { ffi::vig_ids_set_initial_dcid(&mut self.0, cid.0, token_in(token), has, path) }.result()
     }

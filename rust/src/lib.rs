@@ -3,7 +3,7 @@
 //! The core behind this crate is written in Rattle, and every function of it is proved to meet its contract. It does what `cid.rs`, `path.rs` and `timer.rs` of
 //! tquic 1.6.0 do, under the same names. docs/RULES.md of the project says what each call answers and leaves; the docs here name its headings.
 //!
-//! Three states, [`Timers`], [`Ids`] and [`Paths`](crate::Paths), each of a fixed size, with no allocation in the core, no clock and no globals. Their
+//! Three states, [`Timers`], [`Ids`] and `Paths`, each of a fixed size, with no allocation in the core, no clock and no globals. Their
 //! fields can't be written from outside, so a state that a `fresh` accepted is never [`Refusal::Malformed`]. Each call answers `Result<_, Refusal>`. A refusal
 //! leaves what RULES.md names with it, mostly nothing changed.
 //!
@@ -21,6 +21,10 @@
 //! assert_eq!(third, Err(Refusal::ConnectionIdLimitError));
 //! # Ok(())
 //! # }
+//! ```
+//!
+//! ```compile_fail,E0616
+//! vignorasc::Timers::fresh().0.expires[0].set = true; // private
 //! ```
 //!
 //! `examples/migrate.rs` is a small server whose client changes its address in mid-push.

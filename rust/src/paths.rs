@@ -152,7 +152,7 @@ impl Paths {
         unsafe { ffi::vig_paths_path_chal_initiated(&self.0, id as u64) }.result()
     }
 
-    /// Whether a challenge or a response is to be sent, and a server has the credit for it.
+    /// Whether a challenge or a response is to be sent, and a server has the credit for it: at least 64, on a verified path too (DIFFERENCES.md, D30).
     pub fn need_send_validation_frames(&self, id: usize) -> Result<bool, Refusal> {
         unsafe { ffi::vig_paths_need_send_validation_frames(&self.0, id as u64) }.result()
     }
@@ -184,7 +184,8 @@ impl Paths {
         unsafe { ffi::vig_paths_on_path_chal_sent(&mut self.0, id as u64, data, size as u64, sent.0) }.result()
     }
 
-    /// A PATH_RESPONSE frame came.
+    /// A PATH_RESPONSE frame came. On a path that isn't Validated it verifies the peer's address, as in tquic, even where it matches no challenge
+    /// (DIFFERENCES.md, D24): a server that wants a match looks for the data among [`Path::sent_chals`] first.
     pub fn on_path_resp_received(&mut self, id: usize, data: [u8; 8], now: Moment) -> Result<Response, Refusal> {
         let a = unsafe { ffi::vig_paths_on_path_resp_received(&mut self.0, id as u64, u64::from_be_bytes(data), now.0) };
         let spans = &a.spans.items[..a.spans.count];

@@ -117,3 +117,18 @@ impl ffi::Timed {
         accepted(self.refusal, || self.deadline.set.then_some(Moment(self.deadline.at)))
     }
 }
+
+#[cfg(test)]
+mod tests {
+    use super::*;
+
+    #[test]
+    fn numbers_and_wire_codes() {
+        let codes = [0x01, 0x01, 0x09, 0x0a, 0x00, 0x01, 0x01, 0x01];
+        for (refusal, (number, code)) in Refusal::ALL.into_iter().zip((1..).zip(codes)) {
+            assert_eq!((refusal.number(), refusal.wire_code()), (number, code));
+            assert_eq!(accepted(number, || ()), Err(refusal));
+        }
+        assert_eq!(accepted(0, || 7), Ok(7));
+    }
+}

@@ -136,7 +136,12 @@ mod tests {
     #[test]
     fn addresses_come_back() {
         let v6 = SocketAddrV6::new(Ipv6Addr::new(0xfe80, 0, 0, 0, 1, 2, 3, 0xffff), 65535, 0x01020304, 0xfffefdfc);
-        for a in ["192.0.2.1:443".parse().unwrap(), "0.0.0.0:0".parse().unwrap(), "[::ffff:192.0.2.1]:443".parse().unwrap(), v6.into()] {
+        for a in [
+            "192.0.2.1:443".parse().unwrap(),
+            "0.0.0.0:0".parse().unwrap(),
+            "[::ffff:192.0.2.1]:443".parse().unwrap(),
+            v6.into(),
+        ] {
             assert_eq!(address_out(address_in(a)), a);
         }
         let v4 = address_in("192.0.2.1:443".parse().unwrap());

@@ -11,3 +11,5 @@ pub mod AddLaws
 pub mod IssueLaws
 pub mod CallLaws
 pub mod Lift
+pub mod Runs
+pub mod RunsProof

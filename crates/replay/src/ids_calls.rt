@@ -1,4 +1,5 @@
 // The calls 20 to 39, and the writes e0 to e2.
+use crate::answers;
 use crate::ids_digest;
 use crate::ids_reads;
 use crate::ids_text;
@@ -27,18 +28,14 @@ fn done(o: ids::DoneOut, call: u8, out: &mut [u8], at: usize) -> IdsLine {
 
 fn issued(o: ids::IssuedOut, call: u8, out: &mut [u8], at: usize) -> IdsLine {
     let s = o.ids;
-    let p = text::put_head(out, at, call, o.answer.refusal);
-    let q = text::put_number(out, p, o.answer.number);
-    ended(s, out, q)
+    let p = answers::counted(o.answer, call, out, at);
+    ended(s, out, p)
 }
 
 fn freed(o: ids::FreedOut, call: u8, out: &mut [u8], at: usize) -> IdsLine {
     let s = o.ids;
-    let a = o.answer;
-    let p = text::put_head(out, at, call, a.refusal);
-    let q = text::put_flag(out, p, a.present);
-    let n = text::put_number(out, q, a.number);
-    ended(s, out, n)
+    let p = answers::numbered(o.answer, call, out, at);
+    ended(s, out, p)
 }
 
 fn retired(o: ids::RetiredOut, call: u8, out: &mut [u8], at: usize) -> IdsLine {

@@ -1,26 +1,11 @@
 // The calls on the IDs that only read: each writes the line up to the digest.
+use crate::answers;
 use crate::ids_text;
 use crate::record;
 use crate::record::Record;
 use crate::text;
 use crate::values_calls;
 use ids_state::Ids;
-
-fn counted(a: values::Counted, call: u8, out: &mut [u8], at: usize) -> usize {
-    let p = text::put_head(out, at, call, a.refusal);
-    text::put_number(out, p, a.number)
-}
-
-fn flagged(a: values::Flagged, call: u8, out: &mut [u8], at: usize) -> usize {
-    let p = text::put_head(out, at, call, a.refusal);
-    text::put_flag(out, p, a.flag)
-}
-
-fn numbered(a: values::Numbered, call: u8, out: &mut [u8], at: usize) -> usize {
-    let p = text::put_head(out, at, call, a.refusal);
-    let q = text::put_flag(out, p, a.present);
-    text::put_number(out, q, a.number)
-}
 
 fn whole(a: ids::ItemAnswer, call: u8, out: &mut [u8], at: usize) -> usize {
     let x = a.item;
@@ -66,18 +51,18 @@ fn lookups(s: Ids, r: Record, out: &mut [u8], at: usize) -> usize {
         return found(ids::find_scid(s, record::id(r)), call, out, at);
     }
     if call == 0x28 {
-        return counted(ids::unused_scids(s), call, out, at);
+        return answers::counted(ids::unused_scids(s), call, out, at);
     }
     if call == 0x29 {
-        return counted(ids::unused_dcids(s), call, out, at);
+        return answers::counted(ids::unused_dcids(s), call, out, at);
     }
     if call == 0x2a {
-        return numbered(ids::lowest_unused_dcid_seq(s), call, out, at);
+        return answers::numbered(ids::lowest_unused_dcid_seq(s), call, out, at);
     }
     if call == 0x30 {
-        return numbered(ids::next_scid_to_advertise(s), call, out, at);
+        return answers::numbered(ids::next_scid_to_advertise(s), call, out, at);
     }
-    numbered(ids::next_dcid_to_retire(s), call, out, at)
+    answers::numbered(ids::next_dcid_to_retire(s), call, out, at)
 }
 
 pub fn fields(s: Ids, r: Record, out: &mut [u8], at: usize) -> usize {
@@ -89,22 +74,22 @@ pub fn fields(s: Ids, r: Record, out: &mut [u8], at: usize) -> usize {
         return framed(ids::create_new_connection_id_frame(s, r.n0), call, out, at);
     }
     if call == 0x33 {
-        return flagged(ids::need_send_cid_control_frames(s), call, out, at);
+        return answers::flagged(ids::need_send_cid_control_frames(s), call, out, at);
     }
     if call == 0x34 {
-        return flagged(ids::zero_length_scid(s), call, out, at);
+        return answers::flagged(ids::zero_length_scid(s), call, out, at);
     }
     if call == 0x35 {
-        return flagged(ids::zero_length_dcid(s), call, out, at);
+        return answers::flagged(ids::zero_length_dcid(s), call, out, at);
     }
     if call == 0x36 {
-        return counted(ids::scid_count(s), call, out, at);
+        return answers::counted(ids::scid_count(s), call, out, at);
     }
     if call == 0x37 {
         return perhaps(ids::scid_at(s, r.n0), call, out, at);
     }
     if call == 0x38 {
-        return counted(ids::dcid_count(s), call, out, at);
+        return answers::counted(ids::dcid_count(s), call, out, at);
     }
     perhaps(ids::dcid_at(s, r.n0), call, out, at)
 }

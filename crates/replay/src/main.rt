@@ -3,11 +3,15 @@
 ghost use mathlib.Core.Path.{_≡_};
 ghost use lib.ListN.{length};
 
+mod answers;
 mod digest;
 mod ids_calls;
 mod ids_digest;
 mod ids_reads;
 mod ids_text;
+mod paths_calls;
+mod paths_digest;
+mod paths_reads;
 mod record;
 mod text;
 mod timers_calls;
@@ -16,6 +20,7 @@ mod values_calls;
 use ids_state::Ids;
 use libc::STDIN_FILENO;
 use libc::STDOUT_FILENO;
+use paths_state::Paths;
 use record::Record;
 use timers::TimerTable;
 
@@ -23,6 +28,7 @@ use timers::TimerTable;
 struct States {
     timers: TimerTable,
     ids: Ids,
+    paths: Paths,
     at: usize,
     // how many records were answered
     count: u64,
@@ -74,6 +80,13 @@ fn answer(s: States, r: Record, out: &mut [u8]) -> States {
         let l = ids_calls::line(i, r, out, at);
         let v = l.ids;
         u.ids = v;
+        return answered(u, l.at);
+    }
+    if ((0x40 <= call) & (call <= 0x5d)) | ((0xe8 <= call) & (call <= 0xea)) {
+        let t = s.paths;
+        let l = paths_calls::line(t, r, out, at);
+        let v = l.paths;
+        u.paths = v;
         return answered(u, l.at);
     }
     let p = text::put_pair(out, at, call);
@@ -167,6 +180,7 @@ fn main() {
     let mut s = States {
         timers: timers::fresh(),
         ids: no_ids(),
+        paths: paths_state::no_paths(),
         at: 0,
         count: 0,
         over: false,

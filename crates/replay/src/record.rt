@@ -1,5 +1,8 @@
 // A record of 96 bytes, as docs/TRACES.md lays it out.
+ghost use Prim.Native.Nat.{_≤_};
+use values::Address;
 use values::ConnectionId;
+use values::FourTuple;
 use values::Token;
 
 pub struct Record {
@@ -98,5 +101,50 @@ pub fn token(r: Record) -> Token {
     Token {
         bytes: bytes,
         present: r.a,
+    }
+}
+
+fn number(area: [u8; 54], from: u8, bytes: u8) -> u32
+    requires { ⌜ (from ≤ 50) × (bytes ≤ 4) ⌝ }
+{
+    let mut x: u32 = 0;
+    let start = from as usize;
+    let many = bytes as usize;
+    let mut i: usize = 0;
+    while i < many {
+        x = (x << 8) | (area[start + i] as u32);
+        i += 1;
+    }
+    x
+}
+
+// The address of 27 bytes from `from` on: kind, IP, port, flow, scope.
+fn address(area: [u8; 54], from: u8) -> Address
+    requires { ⌜ from ≤ 27 ⌝ }
+{
+    let start = from as usize;
+    let mut ip = [0u8; 16];
+    let mut i: usize = 0;
+    while i < 16 {
+        ip[i] = area[start + 1 + i];
+        i += 1;
+    }
+    Address {
+        ip: ip,
+        flow: number(area, from + 19, 4),
+        scope: number(area, from + 23, 4),
+        port: (number(area, from + 17, 2) % 65536) as u16,
+        kind: area[start],
+    }
+}
+
+// The pair of addresses that the area holds.
+pub fn pair(r: Record) -> FourTuple {
+    let area = r.area;
+    let local = address(area, 0);
+    let remote = address(area, 27);
+    FourTuple {
+        local: local,
+        remote: remote,
     }
 }

@@ -1,4 +1,5 @@
 // The calls 10 to 15. Those that are lent in place too are made both ways: a line says so where the two forms differ, and no answer line looks like it.
+use crate::answers;
 use crate::digest;
 use crate::record::Record;
 use crate::text;
@@ -43,11 +44,8 @@ fn same_time(a: Timed, b: Timed) -> bool {
 }
 
 fn timed(t: TimerTable, a: Timed, call: u8, out: &mut [u8], at: usize) -> TimersLine {
-    let d = a.deadline;
-    let p = text::put_head(out, at, call, a.refusal);
-    let q = text::put_flag(out, p, d.set);
-    let s = text::put_number(out, q, d.at.us);
-    ended(t, out, s)
+    let p = answers::timed(a, call, out, at);
+    ended(t, out, p)
 }
 
 pub fn line(t: TimerTable, r: Record, out: &mut [u8], at: usize) -> TimersLine {
@@ -86,7 +84,6 @@ pub fn line(t: TimerTable, r: Record, out: &mut [u8], at: usize) -> TimersLine {
         return TimersLine { timers: t, at: p };
     }
     let a = timers::is_expired(t, r.n0, m);
-    let p = text::put_head(out, at, call, a.refusal);
-    let q = text::put_flag(out, p, a.flag);
-    ended(t, out, q)
+    let p = answers::flagged(a, call, out, at);
+    ended(t, out, p)
 }

@@ -29,6 +29,9 @@ fresh-requires c κs = search needs
 no-ids-requires : tie.Need-no-ids-requires Inv-loop μ-loop
 no-ids-requires c κs = search needs
 
+no-paths-requires : tie.Need-no-paths-requires Inv-loop μ-loop
+no-paths-requires c κs = search needs
+
 loop-holds : tie.Need-loop-holds Inv-loop μ-loop
 loop-holds c = search needs
 
@@ -42,7 +45,7 @@ flushed-requires : tie.Need-flushed-requires Inv-loop μ-loop
 flushed-requires c κs = search needs
 
 add-k : tie.Need-add-k Inv-loop μ-loop
-add-k c = search needs
+add-k c = omega (arith, c .before .before .before .before .before .before .before .before .before .before .before .loop-test .taken)
 
 finished-requires : tie.Need-finished-requires Inv-loop μ-loop
 finished-requires c κs = search needs
@@ -74,6 +77,7 @@ main-spec =
     slice-aggregate-out
     fresh-requires
     no-ids-requires
+    no-paths-requires
     loop-holds
     read-full-requires
     records-requires

@@ -1,0 +1,298 @@
+-- What is promised of the code: of every published call, on any state and over any run of calls. This file is the statement, to be read alone; that all
+-- of it holds is `held` in RunsProof.antt.
+--
+-- A CodeCall is a published call with the arguments that the code takes, of their form or not. `result s c` is what the contract of c in src/calls.rt says
+-- that it returns on the state s, word for word; `made s c` is the state that is in it, or s where the call only reads, and `refusal s c` its number.
+-- `calls s cs` is the state after the calls cs, one after the other, refused ones too. `view`, and `doneCall` to `frameCall`, are of
+-- Reading.antt; `wellFormed` is of ids_state; `apply`, `run` and what is said of them are of ids_rules.
+use Prim.Native.Nat.{ℕ}
+use mathlib.Core.Path.{_≡_}
+use mathlib.Core.List.{List, [], _∷_, _++_, map}
+use mathlib.Core.Bool.{Bool, true, false, cond, not, _&&_, _||_}
+use lib.Dec.{eqb, leb}
+use lib.ListN.{length}
+use Rattle.lists.specs.Defs.{given, keep, has}
+use Rattle.values.specs.Cid.{idFormed}
+use Rattle.values.specs.Token.{tokenFormed, tokenView}
+use Rattle.values.specs.declared.token.Token.{Token}
+use Rattle.values.specs.declared.token.ResetToken.{ResetToken}
+use Rattle.values.specs.declared.answers.Flagged.{Flagged}
+use Rattle.values.specs.declared.answers.Counted.{Counted}
+use Rattle.values.specs.declared.answers.Numbered.{Numbered}
+use Rattle.values.specs.declared.cid.ConnectionId.{ConnectionId}
+use Rattle.ids_rules.specs.View.{Out}
+use Rattle.ids_rules.specs.Steps.{freshFormed}
+use Rattle.ids_rules.specs.Calls.{Query, GetScid, GetDcid, FindScid, UnusedScids, UnusedDcids, LowestUnusedDcidSeq, NextScidToAdvertise, NextDcidToRetire, CreateNewConnectionIdFrame, NeedSendCidControlFrames, ZeroLengthScid, ZeroLengthDcid, ScidCount, ScidAt, DcidCount, DcidAt}
+use Rattle.ids_rules.specs.Calls.{Call, Reply, queryFormed, apply, run}
+use Rattle.ids_rules.specs.Promise.{Starts, history, counted, live, sequences}
+use Rattle.ids_state.specs.Formed.{wellFormed}
+use Rattle.ids_state.specs.declared.state.Ids.{Ids}
+use Rattle.ids.specs.Reading.{view, pathFormed, doneOf, issuedOf, freedOf, retiredOf, countedOf, flaggedOf, numberedOf, itemAnswerOf, foundAnswerOf, frameOf}
+use Rattle.ids.specs.Reading.{doneCall, issuedCall, freedCall, retiredCall, countedCall, flaggedCall, numberedCall, itemCall, foundCall, frameCall, freshIds}
+use Rattle.ids.specs.declared.answers.ItemAnswer.{ItemAnswer}
+use Rattle.ids.specs.declared.answers.FoundAnswer.{FoundAnswer}
+use Rattle.ids.specs.declared.answers.FrameAnswer.{FrameAnswer}
+use Rattle.ids.specs.declared.answers.DoneOut.{DoneOut}
+use Rattle.ids.specs.declared.answers.IssuedOut.{IssuedOut}
+use Rattle.ids.specs.declared.answers.FreedOut.{FreedOut}
+use Rattle.ids.specs.declared.answers.RetiredOut.{RetiredOut}
+use Rattle.ids_rules.specs.Calls as C
+
+-- ---- the published calls: nine that change the state, sixteen that read it, and fresh
+
+pub data CodeCall : Type 0 where
+  SetInitialDcid : ConnectionId → (token : Token) (has : Bool) (path : ℕ) → CodeCall
+  SetScidLimit : (n : ℕ) → CodeCall
+  AddScid : ConnectionId → (token : Token) (advertise has : Bool) (path : ℕ) (leave : Bool) → CodeCall
+  RetireScid : (seq : ℕ) → (packet : ConnectionId) → CodeCall
+  AddDcid : ConnectionId → (seq : ℕ) → (token : ResetToken) → (retirePriorTo : ℕ) → CodeCall
+  MarkScidUsed : (seq path : ℕ) → CodeCall
+  MarkDcidUsed : (seq path : ℕ) → CodeCall
+  MarkScidToAdvertise : (seq : ℕ) (on : Bool) → CodeCall
+  MarkDcidToRetire : (seq : ℕ) (on : Bool) → CodeCall
+  -- the arguments of a call that reads are those of its query
+  Reads : Query → CodeCall
+
+-- what a fresh call that is not refused gives
+pub data Started : Ids → Type 0 where
+  started : (dlimit : ℕ) (cid : ConnectionId) (path : ℕ) (token : Token)
+      → freshIds dlimit cid path token .answer .refusal ≡ 0 → Started (freshIds dlimit cid path token .ids)
+
+-- the arguments have their form, as the contract has it
+abbrev pub argsFormed : CodeCall → Bool
+argsFormed (SetInitialDcid cid token has path) = idFormed cid && tokenFormed token && pathFormed has path
+argsFormed (SetScidLimit n) = true
+argsFormed (AddScid cid token advertise has path leave) = idFormed cid && tokenFormed token && pathFormed has path
+argsFormed (RetireScid seq packet) = idFormed packet
+argsFormed (AddDcid cid seq token b) = idFormed cid
+argsFormed (MarkScidUsed seq path) = true
+argsFormed (MarkDcidUsed seq path) = true
+argsFormed (MarkScidToAdvertise seq on) = true
+argsFormed (MarkDcidToRetire seq on) = true
+argsFormed (Reads q) = queryFormed q
+
+-- ---- what each returns
+
+pub data Result : Type 0 where
+  Done : DoneOut → Result
+  Issued : IssuedOut → Result
+  Freed : FreedOut → Result
+  Retired : RetiredOut → Result
+  ACount : Counted → Result
+  AFlag : Flagged → Result
+  ANumber : Numbered → Result
+  AnItem : ItemAnswer → Result
+  AFound : FoundAnswer → Result
+  AFrame : FrameAnswer → Result
+
+abbrev pub asked : Ids → Query → Result
+asked s (GetScid seq) = AnItem (itemCall s (GetScid seq))
+asked s (GetDcid seq) = AnItem (itemCall s (GetDcid seq))
+asked s (FindScid cid) = AFound (foundCall s (idFormed cid) (FindScid cid))
+asked s UnusedScids = ACount (countedCall s UnusedScids)
+asked s UnusedDcids = ACount (countedCall s UnusedDcids)
+asked s LowestUnusedDcidSeq = ANumber (numberedCall s LowestUnusedDcidSeq)
+asked s NextScidToAdvertise = ANumber (numberedCall s NextScidToAdvertise)
+asked s NextDcidToRetire = ANumber (numberedCall s NextDcidToRetire)
+asked s (CreateNewConnectionIdFrame seq) = AFrame (frameCall s (CreateNewConnectionIdFrame seq))
+asked s NeedSendCidControlFrames = AFlag (flaggedCall s NeedSendCidControlFrames)
+asked s ZeroLengthScid = AFlag (flaggedCall s ZeroLengthScid)
+asked s ZeroLengthDcid = AFlag (flaggedCall s ZeroLengthDcid)
+asked s ScidCount = ACount (countedCall s ScidCount)
+asked s (ScidAt place) = AnItem (itemCall s (ScidAt place))
+asked s DcidCount = ACount (countedCall s DcidCount)
+asked s (DcidAt place) = AnItem (itemCall s (DcidAt place))
+
+abbrev pub result : Ids → CodeCall → Result
+result s (SetInitialDcid cid token has path) = Done (doneCall s (idFormed cid && tokenFormed token && pathFormed has path) (C.SetInitialDcid cid (tokenView token) (given has path)))
+result s (SetScidLimit n) = Done (doneCall s true (C.SetScidLimit n))
+result s (AddScid cid token advertise has path leave) = Issued (issuedCall s (idFormed cid && tokenFormed token && pathFormed has path) (C.AddScid cid (tokenView token) advertise (given has path) leave))
+result s (RetireScid seq packet) = Freed (freedCall s (idFormed packet) (C.RetireScid seq packet))
+result s (AddDcid cid seq token b) = Retired (retiredCall s (idFormed cid) (C.AddDcid cid seq (token .bytes) b))
+result s (MarkScidUsed seq path) = Done (doneCall s true (C.MarkScidUsed seq path))
+result s (MarkDcidUsed seq path) = Done (doneCall s true (C.MarkDcidUsed seq path))
+result s (MarkScidToAdvertise seq on) = Done (doneCall s true (C.MarkScidToAdvertise seq on))
+result s (MarkDcidToRetire seq on) = Done (doneCall s true (C.MarkDcidToRetire seq on))
+result s (Reads q) = asked s q
+
+-- the state that a result has, if it has one; the number of its refusal
+abbrev pub stateIn : Ids → Result → Ids
+stateIn s (Done r) = r .ids
+stateIn s (Issued r) = r .ids
+stateIn s (Freed r) = r .ids
+stateIn s (Retired r) = r .ids
+stateIn s (ACount r) = s
+stateIn s (AFlag r) = s
+stateIn s (ANumber r) = s
+stateIn s (AnItem r) = s
+stateIn s (AFound r) = s
+stateIn s (AFrame r) = s
+
+abbrev pub refusalIn : Result → ℕ
+refusalIn (Done r) = r .answer .refusal
+refusalIn (Issued r) = r .answer .refusal
+refusalIn (Freed r) = r .answer .refusal
+refusalIn (Retired r) = r .answer .refusal
+refusalIn (ACount r) = r .refusal
+refusalIn (AFlag r) = r .refusal
+refusalIn (ANumber r) = r .refusal
+refusalIn (AnItem r) = r .refusal
+refusalIn (AFound r) = r .refusal
+refusalIn (AFrame r) = r .refusal
+
+abbrev pub made : Ids → CodeCall → Ids
+made s c = stateIn s (result s c)
+
+abbrev pub refusal : Ids → CodeCall → ℕ
+refusal s c = refusalIn (result s c)
+
+abbrev pub calls : Ids → List CodeCall → Ids
+calls s [] = s
+calls s (c ∷ cs) = calls (made s c) cs
+
+-- ---- the same call on the view, and how the code gives its outcome
+
+abbrev pub viewCall : CodeCall → Call
+viewCall (SetInitialDcid cid token has path) = C.SetInitialDcid cid (tokenView token) (given has path)
+viewCall (SetScidLimit n) = C.SetScidLimit n
+viewCall (AddScid cid token advertise has path leave) = C.AddScid cid (tokenView token) advertise (given has path) leave
+viewCall (RetireScid seq packet) = C.RetireScid seq packet
+viewCall (AddDcid cid seq token b) = C.AddDcid cid seq (token .bytes) b
+viewCall (MarkScidUsed seq path) = C.MarkScidUsed seq path
+viewCall (MarkDcidUsed seq path) = C.MarkDcidUsed seq path
+viewCall (MarkScidToAdvertise seq on) = C.MarkScidToAdvertise seq on
+viewCall (MarkDcidToRetire seq on) = C.MarkDcidToRetire seq on
+viewCall (Reads q) = C.Ask q
+
+-- a call whose arguments have not their form changes nothing, and is left out
+abbrev pub viewCalls : List CodeCall → List Call
+viewCalls cs = map viewCall (keep argsFormed cs)
+
+abbrev pub askedAs : Query → Reply → Result
+askedAs (GetScid seq) r = AnItem (itemAnswerOf r)
+askedAs (GetDcid seq) r = AnItem (itemAnswerOf r)
+askedAs (FindScid cid) r = AFound (foundAnswerOf r)
+askedAs UnusedScids r = ACount (countedOf r)
+askedAs UnusedDcids r = ACount (countedOf r)
+askedAs LowestUnusedDcidSeq r = ANumber (numberedOf r)
+askedAs NextScidToAdvertise r = ANumber (numberedOf r)
+askedAs NextDcidToRetire r = ANumber (numberedOf r)
+askedAs (CreateNewConnectionIdFrame seq) r = AFrame (frameOf r)
+askedAs NeedSendCidControlFrames r = AFlag (flaggedOf r)
+askedAs ZeroLengthScid r = AFlag (flaggedOf r)
+askedAs ZeroLengthDcid r = AFlag (flaggedOf r)
+askedAs ScidCount r = ACount (countedOf r)
+askedAs (ScidAt place) r = AnItem (itemAnswerOf r)
+askedAs DcidCount r = ACount (countedOf r)
+askedAs (DcidAt place) r = AnItem (itemAnswerOf r)
+
+abbrev pub replied : Out → Reply
+replied o = record { refusal = o .refusal; answer = o .answer }
+
+abbrev pub resultAs : CodeCall → Out → Result
+resultAs (SetInitialDcid cid token has path) o = Done (doneOf o)
+resultAs (SetScidLimit n) o = Done (doneOf o)
+resultAs (AddScid cid token advertise has path leave) o = Issued (issuedOf o)
+resultAs (RetireScid seq packet) o = Freed (freedOf o)
+resultAs (AddDcid cid seq token b) o = Retired (retiredOf o)
+resultAs (MarkScidUsed seq path) o = Done (doneOf o)
+resultAs (MarkDcidUsed seq path) o = Done (doneOf o)
+resultAs (MarkScidToAdvertise seq on) o = Done (doneOf o)
+resultAs (MarkDcidToRetire seq on) o = Done (doneOf o)
+resultAs (Reads q) o = askedAs q (replied o)
+
+-- ---- one call
+
+-- call by call, the contract is `apply` at the call's constructor, on the view of the state
+abbrev pub Applies : Type 0
+Applies = (s : Ids) (c : CodeCall) → wellFormed s ≡ true → argsFormed c ≡ true → result s c ≡ resultAs c (apply (view s) (viewCall c))
+
+-- a state or an argument not of its form: refused with 1, and the state comes back as it was
+abbrev pub Malformed : Type 0
+Malformed = (s : Ids) (c : CodeCall) → (wellFormed s && argsFormed c) ≡ false → (refusal s c ≡ 1) × (made s c ≡ s)
+
+-- 1, and every number from 5 on, leaves nothing changed, on any state at all
+abbrev pub LeavesNothing : Type 0
+LeavesNothing = (s : Ids) (c : CodeCall) → (eqb (refusal s c) 1 || leb 5 (refusal s c)) ≡ true → made s c ≡ s
+
+-- every call keeps every well-formed state well formed, whatever its arguments are
+abbrev pub KeepsWell : Type 0
+KeepsWell = (s : Ids) (c : CodeCall) → wellFormed s ≡ true → wellFormed (made s c) ≡ true
+
+-- ---- fresh
+
+-- fresh is refused, with 1, exactly if an argument has not its form
+abbrev pub FreshOne : Type 0
+FreshOne = (dlimit : ℕ) (cid : ConnectionId) (path : ℕ) (token : Token) → freshIds dlimit cid path token .answer .refusal ≡ cond (tokenFormed token && freshFormed dlimit cid) 0 1
+
+abbrev pub FreshWell : Type 0
+FreshWell = (s : Ids) → Started s → wellFormed s ≡ true
+
+-- ---- runs
+
+abbrev pub RunsWell : Type 0
+RunsWell = (s : Ids) (cs : List CodeCall) → wellFormed s ≡ true → wellFormed (calls s cs) ≡ true
+
+-- after any calls from a fresh state, a call is refused with 1 exactly if an argument of it has not its form
+abbrev pub NeverOne : Type 0
+NeverOne = (s : Ids) → Started s → (cs : List CodeCall) (c : CodeCall) → eqb (refusal (calls s cs) c) 1 ≡ not (argsFormed c)
+
+-- a run of the code is a run of the view, and begins where a run of the view does: so what ids_rules says of every run holds of the code
+abbrev pub IsRun : Type 0
+IsRun = (s : Ids) (cs : List CodeCall) → wellFormed s ≡ true → view (calls s cs) ≡ run (view s) (viewCalls cs)
+
+abbrev pub IsStart : Type 0
+IsStart = (s : Ids) → Started s → Starts (view s)
+
+-- ---- so, of the source sequences that the code issues
+
+-- the sequence in the answer of an add_scid that is not refused
+abbrev pub issuedIn : Result → List ℕ
+issuedIn (Done r) = []
+issuedIn (Issued r) = cond (eqb (r .answer .refusal) 0) (r .answer .number ∷ []) []
+issuedIn (Freed r) = []
+issuedIn (Retired r) = []
+issuedIn (ACount r) = []
+issuedIn (AFlag r) = []
+issuedIn (ANumber r) = []
+issuedIn (AnItem r) = []
+issuedIn (AFound r) = []
+issuedIn (AFrame r) = []
+
+abbrev pub issues : Ids → List CodeCall → List ℕ
+issues s [] = []
+issues s (c ∷ cs) = issuedIn (result s c) ++ issues (made s c) cs
+
+-- those that the source table holds
+abbrev pub sourceSeqs : Ids → List ℕ
+sourceSeqs s = sequences (view s)
+
+-- they are 1, 2, 3 and so on
+abbrev pub WithoutGap : Type 0
+WithoutGap = (s : Ids) → Started s → (cs : List CodeCall) → issues s cs ≡ counted 1 (length (issues s cs))
+
+-- the table holds sequence 0 and those issued, less those taken out
+abbrev pub TableIsHistory : Type 0
+TableIsHistory = (s : Ids) → Started s → (cs : List CodeCall) → sourceSeqs (calls s cs) ≡ live (0 ∷ []) (history (view s) (viewCalls cs))
+
+-- a sequence that was there, 0 or issued, and is out after cs, is out after any more calls ds
+abbrev pub NeverReturns : Type 0
+NeverReturns = (s : Ids) → Started s → (cs ds : List CodeCall) (n : ℕ) → has n (0 ∷ issues s cs) ≡ true
+    → has n (sourceSeqs (calls s cs)) ≡ false → has n (sourceSeqs (calls s (cs ++ ds))) ≡ false
+
+-- ---- all of it
+
+pub record Held : Type 0 where
+  pub applies : Applies
+  pub malformed : Malformed
+  pub leavesNothing : LeavesNothing
+  pub keepsWell : KeepsWell
+  pub freshOne : FreshOne
+  pub freshWell : FreshWell
+  pub runsWell : RunsWell
+  pub neverOne : NeverOne
+  pub isRun : IsRun
+  pub isStart : IsStart
+  pub withoutGap : WithoutGap
+  pub tableIsHistory : TableIsHistory
+  pub neverReturns : NeverReturns

@@ -1,0 +1,50 @@
+-- The loop only counts up to its end.
+use Prim.Native.Nat.{_≤_, _-_}
+use borrow.Author.Needs.{needs}
+use Rattle.replay.proofs.paths_digest.of_spans.Statement.{statement}
+use Rattle.replay.proofs.paths_digest.of_spans.Tie as tie
+
+abbrev Inv-loop : tie.InvT-loop
+Inv-loop s h₀ i₀ h i = i ≤ 16
+
+abbrev μ-loop : tie.MeasureT-loop
+μ-loop s h₀ i₀ h i = 16 - i
+
+loop-holds : tie.Need-loop-holds Inv-loop μ-loop
+loop-holds c = search needs
+
+mul-x : tie.Need-mul-x Inv-loop μ-loop
+mul-x c = search needs
+
+element-copy-out-x : tie.Need-element-copy-out-x Inv-loop μ-loop
+element-copy-out-x c = search needs
+
+mix-requires : tie.Need-mix-requires Inv-loop μ-loop
+mix-requires c κs = search needs
+
+add-i : tie.Need-add-i Inv-loop μ-loop
+add-i c = search needs
+
+loop-less : tie.Need-loop-less Inv-loop μ-loop
+loop-less c = search needs
+
+loop-again : tie.Need-loop-again Inv-loop μ-loop
+loop-again c = search needs
+
+returns : tie.Need-returns Inv-loop μ-loop
+returns c = search needs
+
+pub of-spans-spec : {M : Type 1} → statement M
+of-spans-spec =
+    tie.close
+    (tie.spec
+    Inv-loop
+    μ-loop
+    loop-holds
+    mul-x
+    element-copy-out-x
+    mix-requires
+    add-i
+    loop-less
+    loop-again
+    returns)
