@@ -24,14 +24,24 @@ use values::Numbered;
 use values::Timed;
 
 #[no_mangle]
-pub extern "C" fn val_paths_fresh(pair: FourTuple, max_datagram_size: u64, limit: u64, factor: u64, server: bool) -> DoneOut
+pub extern "C" fn val_paths_fresh(
+    pair: FourTuple,
+    max_datagram_size: u64,
+    limit: u64,
+    factor: u64,
+    server: bool,
+) -> DoneOut
     ensures { λ r. ⌜ r ≡ doneOf (T.freshCall pair «max_datagram_size» limit factor server) ⌝ }
 {
     paths::fresh(pair, max_datagram_size, limit, factor, server)
 }
 
 #[no_mangle]
-pub extern "C" fn val_paths_insert_path(t: Paths, pair: FourTuple, max_datagram_size: u64) -> InsertedOut
+pub extern "C" fn val_paths_insert_path(
+    t: Paths,
+    pair: FourTuple,
+    max_datagram_size: u64,
+) -> InsertedOut
     ensures { λ r. ⌜ r ≡ insertedCall t (pairFormed pair) (C.Insert pair «max_datagram_size») ⌝ }
 {
     paths::insert_path(t, pair, max_datagram_size)
@@ -143,14 +153,25 @@ pub extern "C" fn val_paths_on_path_chal_received(t: Paths, id: u64, data: u64) 
 }
 
 #[no_mangle]
-pub extern "C" fn val_paths_on_path_chal_sent(t: Paths, id: u64, data: u64, size: u64, sent: Moment) -> DoneOut
+pub extern "C" fn val_paths_on_path_chal_sent(
+    t: Paths,
+    id: u64,
+    data: u64,
+    size: u64,
+    sent: Moment,
+) -> DoneOut
     ensures { λ r. ⌜ r ≡ doneCall t (momentFormed (sent .us)) (C.On id (C.Send «data» size (sent .us))) ⌝ }
 {
     paths::on_path_chal_sent(t, id, data, size, sent)
 }
 
 #[no_mangle]
-pub extern "C" fn val_paths_on_path_resp_received(t: Paths, id: u64, data: u64, now: Moment) -> RespondedOut
+pub extern "C" fn val_paths_on_path_resp_received(
+    t: Paths,
+    id: u64,
+    data: u64,
+    now: Moment,
+) -> RespondedOut
     ensures { λ r. ⌜ r ≡ respondedCall t (momentFormed (now .us)) (C.On id (C.Respond «data» (now .us))) ⌝ }
 {
     paths::on_path_resp_received(t, id, data, now)

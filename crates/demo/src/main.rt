@@ -1,78 +1,121 @@
-// A short story to read: the timers of one connection while a push runs over cable. Every answer comes from the published calls.
+// A story to read: a push of character properties to a font editor, on a laptop that moves from cable to wireless in mid-push. Every number comes from
+// the published calls; nothing here decides anything.
+mod laptop;
+mod push;
 mod tell;
 
-use timers::TimerTable;
+use ids_state::Ids;
+use paths_state::Paths;
 use values::Moment;
 
-// Sets a timer, and tells so.
-fn set(t: TimerTable, timer: u64, at: u64) -> TimerTable {
-    let o = timers::set(t, timer, Moment { us: at });
-    tell::say(b"      set   ");
-    tell::timer(timer);
-    tell::say(b"to go off at ");
-    tell::moment(at);
-    tell::verdict(o.answer.refusal);
-    let u = o.timers;
-    u
+// The laptop's first packet on wireless, and what the server may send before it knows who is there.
+fn lifted(t: Paths) -> Paths {
+    tell::say(
+        b"\nThe laptop is lifted from its dock. A packet of 1200 bytes comes from an address never seen.\n\n",
+    );
+    let o = paths::insert_path(t, laptop::wireless(), 1200);
+    let t = o.paths;
+    tell::number(
+        b"   30.000 ms  a new path, number ",
+        o.answer.number,
+        b", with nothing allowed yet\n",
+    );
+    let t = push::credit(t, 1, 1200);
+    let t = push::challenge(t, 1, 30500);
+    push::send(t, 1, 5000)
 }
 
-fn stop(t: TimerTable, timer: u64) -> TimerTable {
-    let o = timers::stop(t, timer);
-    tell::say(b"      stop  ");
-    tell::timer(timer);
-    tell::verdict(o.answer.refusal);
-    let u = o.timers;
-    u
-}
-
-fn ask(t: TimerTable, timer: u64, now: u64) {
-    let a = timers::is_expired(t, timer, Moment { us: now });
-    tell::say(b"      ");
-    tell::moment(now);
-    tell::say(b"  has ");
-    tell::timer(timer);
-    if a.flag {
-        tell::say(b"gone off?  yes");
+// The challenge is answered, and the whole push may go on.
+fn answered(t: Paths) -> Paths {
+    tell::say(
+        b"\nNothing more may go there until the laptop has shown that it can hear. It answers.\n\n",
+    );
+    let o = paths::on_path_resp_received(t, 1, laptop::CHALLENGE, Moment { us: 48500 });
+    let t = o.paths;
+    let a = o.answer;
+    let spans = a.spans;
+    let first = spans.items[0];
+    tell::say(b"   48.500 ms  the response matches after ");
+    tell::moment(first.us);
+    if a.yes {
+        tell::say(b": the path is validated\n");
     } else {
-        tell::say(b"gone off?  no");
+        tell::say(b": the path is not validated yet\n");
     }
-    tell::verdict(a.refusal);
+    push::send(t, 1, 5000)
 }
 
-fn next(t: TimerTable) {
-    let a = timers::next_timeout(t);
-    tell::say(b"      the next deadline is ");
-    let d = a.deadline;
-    if d.set {
-        tell::moment(d.at.us);
-    } else {
-        tell::say(b"none");
-    }
-    tell::verdict(a.refusal);
+// The push moves over: the new path takes an ID of its own, and is the active one.
+fn migrated(t: Paths, s: Ids) -> Paths {
+    tell::say(b"\nThe push moves to wireless.\n\n");
+    let low = ids::lowest_unused_dcid_seq(s);
+    tell::number(
+        b"              path 1 takes the peer's ID number ",
+        low.number,
+        b"\n",
+    );
+    let a = paths::set_dcid_seq(t, 1, true, low.number);
+    let t = a.paths;
+    let b = paths::set_active(t, 1, true);
+    let t = b.paths;
+    let c = paths::set_active(t, 0, false);
+    let t = c.paths;
+    let now = paths::get_active(t);
+    tell::number(b"              the active path is number ", now.id, b"\n");
+    t
+}
+
+// The peer retires the ID that it used on cable.
+fn retired(s: Ids) -> Ids {
+    let m = ids::mark_dcid_used(s, 1, 1);
+    let s = m.ids;
+    let o = ids::add_dcid(s, laptop::id(3), 2, laptop::reset(), 1);
+    let s = o.ids;
+    let used = o.answer.used;
+    let pair = used.pairs[0];
+    tell::number(
+        b"              the peer brings ID number 2 and retires number ",
+        pair.seq,
+        b"",
+    );
+    tell::number(b", which path ", pair.path, b" used\n");
+    let next = ids::next_dcid_to_retire(s);
+    tell::number(
+        b"              RETIRE_CONNECTION_ID goes out for number ",
+        next.number,
+        b"\n",
+    );
+    s
 }
 
 fn main() {
     tell::say(b"A push of character properties begins, over cable.\n\n");
-    let t = timers::fresh();
-    let t = set(t, 3, 30000000);
-    let t = set(t, 7, 15000000);
-    let t = set(t, 8, 25000);
-    next(t);
-    tell::say(
-        b"\nThe laptop is lifted from its dock. A challenge is on its way; its timer decides how long to wait.\n\n",
+    let p = paths::fresh(laptop::cable(), 1200, 4, 3, true);
+    let v = paths::mark_verified(p.paths, 0);
+    let s = laptop::ids();
+    let t = push::send(v.paths, 0, 9600);
+    let t = lifted(t);
+    let t = answered(t);
+    let t = migrated(t, s);
+    let s = retired(s);
+    tell::say(b"\nThe last properties go out on wireless.\n\n");
+    let t = push::send(t, 1, 4600);
+    tell::say(b"\nA mistake of the host changes nothing: ");
+    let bad = paths::set_active(t, 7, true);
+    tell::number(
+        b"path 7 isn't there, refused with ",
+        bad.answer.refusal as u64,
+        b"",
     );
-    ask(t, 8, 24999);
-    ask(t, 8, 25000);
-    tell::say(
-        b"\nThe answer came in time, so the challenge's timer is stopped, and the keep-alive is next.\n\n",
+    tell::number(
+        b", wire code ",
+        values::wire_code(bad.answer.refusal as u64),
+        b".\n",
     );
-    let t = stop(t, 8);
-    next(t);
-    tell::say(
-        b"\nA mistake of the host: there are nine timers, numbered 0 to 8, and no moment past 2^63 - 1 us.\n\n",
+    let left = ids::dcid_count(s);
+    tell::number(
+        b"The push is complete, and the connection holds ",
+        left.number,
+        b" IDs of its peer.\n",
     );
-    let t = set(t, 9, 1000);
-    let t = set(t, 0, 9223372036854775808);
-    next(t);
-    tell::say(b"\nNothing was lost: the refused calls left the table as it was.\n");
 }

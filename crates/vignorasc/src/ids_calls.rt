@@ -30,7 +30,13 @@ pub extern "C" fn vig_ids_fresh(dlimit: u64, cid: ConnectionId, path: u64, token
 
 // The destination table holds the ID alone, with sequence 0.
 #[no_mangle]
-pub extern "C" fn vig_ids_set_initial_dcid(t: &mut Ids, cid: ConnectionId, token: Token, has: bool, path: u64) -> Done
+pub extern "C" fn vig_ids_set_initial_dcid(
+    t: &mut Ids,
+    cid: ConnectionId,
+    token: Token,
+    has: bool,
+    path: u64,
+) -> Done
     ensures { λ r. ⌜ (r ≡ (doneCall (now (t .entry)) (idFormed cid && tokenFormed token && pathFormed has path) (C.SetInitialDcid cid (tokenView token) (given has path))) .answer) × (now (t .exit) ≡ (doneCall (now (t .entry)) (idFormed cid && tokenFormed token && pathFormed has path) (C.SetInitialDcid cid (tokenView token) (given has path))) .ids) ⌝ }
 {
     let a = ids::set_initial_dcid(*t, cid, token, has, path);
@@ -118,7 +124,15 @@ pub extern "C" fn vig_ids_lowest_unused_dcid_seq(t: &Ids) -> Numbered
 
 // A new source ID, at the end of the table: the answer is its sequence.
 #[no_mangle]
-pub extern "C" fn vig_ids_add_scid(t: &mut Ids, cid: ConnectionId, token: Token, advertise: bool, has: bool, path: u64, leave: bool) -> Counted
+pub extern "C" fn vig_ids_add_scid(
+    t: &mut Ids,
+    cid: ConnectionId,
+    token: Token,
+    advertise: bool,
+    has: bool,
+    path: u64,
+    leave: bool,
+) -> Counted
     ensures { λ r. ⌜ (r ≡ (issuedCall (now (t .entry)) (idFormed cid && tokenFormed token && pathFormed has path) (C.AddScid cid (tokenView token) advertise (given has path) leave)) .answer) × (now (t .exit) ≡ (issuedCall (now (t .entry)) (idFormed cid && tokenFormed token && pathFormed has path) (C.AddScid cid (tokenView token) advertise (given has path) leave)) .ids) ⌝ }
 {
     let a = ids::add_scid(*t, cid, token, advertise, has, path, leave);
@@ -128,7 +142,13 @@ pub extern "C" fn vig_ids_add_scid(t: &mut Ids, cid: ConnectionId, token: Token,
 
 // A NEW_CONNECTION_ID frame: the answer is what it retired of the IDs in use.
 #[no_mangle]
-pub extern "C" fn vig_ids_add_dcid(t: &mut Ids, cid: ConnectionId, seq: u64, token: ResetToken, retire_prior_to: u64) -> RetiredAnswer
+pub extern "C" fn vig_ids_add_dcid(
+    t: &mut Ids,
+    cid: ConnectionId,
+    seq: u64,
+    token: ResetToken,
+    retire_prior_to: u64,
+) -> RetiredAnswer
     ensures { λ r. ⌜ (r ≡ (retiredCall (now (t .entry)) (idFormed cid) (C.AddDcid cid seq (token .bytes) «retire_prior_to»)) .answer) × (now (t .exit) ≡ (retiredCall (now (t .entry)) (idFormed cid) (C.AddDcid cid seq (token .bytes) «retire_prior_to»)) .ids) ⌝ }
 {
     let a = ids::add_dcid(*t, cid, seq, token, retire_prior_to);

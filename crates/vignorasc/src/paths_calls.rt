@@ -24,7 +24,13 @@ use values::Timed;
 
 // One path, Validated and active, with the id 0. A refused call gives the all-zero state.
 #[no_mangle]
-pub extern "C" fn vig_paths_fresh(pair: FourTuple, max_datagram_size: u64, limit: u64, factor: u64, server: bool) -> DoneOut
+pub extern "C" fn vig_paths_fresh(
+    pair: FourTuple,
+    max_datagram_size: u64,
+    limit: u64,
+    factor: u64,
+    server: bool,
+) -> DoneOut
     ensures { λ r. ⌜ r ≡ doneOf (T.freshCall pair «max_datagram_size» limit factor server) ⌝ }
 {
     paths::fresh(pair, max_datagram_size, limit, factor, server)
@@ -32,7 +38,11 @@ pub extern "C" fn vig_paths_fresh(pair: FourTuple, max_datagram_size: u64, limit
 
 // A new path: the answer is its id.
 #[no_mangle]
-pub extern "C" fn vig_paths_insert_path(t: &mut Paths, pair: FourTuple, max_datagram_size: u64) -> Counted
+pub extern "C" fn vig_paths_insert_path(
+    t: &mut Paths,
+    pair: FourTuple,
+    max_datagram_size: u64,
+) -> Counted
     ensures { λ r. ⌜ (r ≡ (insertedCall (now (t .entry)) (pairFormed pair) (C.Insert pair «max_datagram_size»)) .answer) × (now (t .exit) ≡ (insertedCall (now (t .entry)) (pairFormed pair) (C.Insert pair «max_datagram_size»)) .paths) ⌝ }
 {
     let a = paths::insert_path(*t, pair, max_datagram_size);
@@ -165,7 +175,13 @@ pub extern "C" fn vig_paths_on_path_chal_received(t: &mut Paths, id: u64, data: 
 
 // A PATH_CHALLENGE frame was sent in a packet of that size.
 #[no_mangle]
-pub extern "C" fn vig_paths_on_path_chal_sent(t: &mut Paths, id: u64, data: u64, size: u64, sent: Moment) -> Done
+pub extern "C" fn vig_paths_on_path_chal_sent(
+    t: &mut Paths,
+    id: u64,
+    data: u64,
+    size: u64,
+    sent: Moment,
+) -> Done
     ensures { λ r. ⌜ (r ≡ (doneCall (now (t .entry)) (momentFormed (sent .us)) (C.On id (C.Send «data» size (sent .us)))) .answer) × (now (t .exit) ≡ (doneCall (now (t .entry)) (momentFormed (sent .us)) (C.On id (C.Send «data» size (sent .us)))) .paths) ⌝ }
 {
     let a = paths::on_path_chal_sent(*t, id, data, size, sent);
@@ -175,7 +191,12 @@ pub extern "C" fn vig_paths_on_path_chal_sent(t: &mut Paths, id: u64, data: u64,
 
 // A PATH_RESPONSE frame came: the answer is whether the path is now Validated, and a span for each challenge that it matched.
 #[no_mangle]
-pub extern "C" fn vig_paths_on_path_resp_received(t: &mut Paths, id: u64, data: u64, moment: Moment) -> RespondedAnswer
+pub extern "C" fn vig_paths_on_path_resp_received(
+    t: &mut Paths,
+    id: u64,
+    data: u64,
+    moment: Moment,
+) -> RespondedAnswer
     ensures { λ r. ⌜ (r ≡ (respondedCall (now (t .entry)) (momentFormed (moment .us)) (C.On id (C.Respond «data» (moment .us)))) .answer) × (now (t .exit) ≡ (respondedCall (now (t .entry)) (momentFormed (moment .us)) (C.On id (C.Respond «data» (moment .us)))) .paths) ⌝ }
 {
     let a = paths::on_path_resp_received(*t, id, data, moment);

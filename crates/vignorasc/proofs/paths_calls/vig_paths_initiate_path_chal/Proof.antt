@@ -43,7 +43,6 @@ use denote.Exit.{yes}
 use mathlib.Core.Bool.{true}
 use Rattle.paths_rules.specs.Calls as C
 use Rattle.paths.specs.Reading.{doneCall}
-
 use Rattle.paths_state.specs.declared.state.Paths.{Paths}
 use Rattle.paths_state.proofs.state.Paths as Pathsᵀ
 use Rattle.paths_state.proofs.state.Paths.Laws as Pathsᴸ

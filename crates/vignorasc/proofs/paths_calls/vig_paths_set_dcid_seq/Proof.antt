@@ -44,7 +44,6 @@ use Rattle.lists.specs.Defs.{given}
 use Rattle.paths_state.specs.Formed.{seqFormed}
 use Rattle.paths_rules.specs.Calls as C
 use Rattle.paths.specs.Reading.{doneCall}
-
 use Rattle.paths_state.specs.declared.state.Paths.{Paths}
 use Rattle.paths_state.proofs.state.Paths as Pathsᵀ
 use Rattle.paths_state.proofs.state.Paths.Laws as Pathsᴸ
