@@ -3,7 +3,7 @@ CALLS ?= 100000
 SEED ?= 1
 AREAS ?= $(shell cat tools/areas)
 
-.PHONY: demo test trials bench sample clean
+.PHONY: demo test trials bench host sample clean
 
 # The main job: prove the story's program and everything below it, run it, and show what it says.
 demo:
@@ -21,9 +21,14 @@ trials:
 bench:
 	bench/run
 
+# The library from C and from Rust: layouts held together, a C program, the crate's tests, and a server on loopback whose client changes its address.
+host:
+	rt staticlib vignorasc
+	tests/host/run
+
 # The stored trace that the gate replays, made again by the Rust.
 sample:
 	tools/sample
 
 clean:
-	rm -rf target oracle/target bench/target
+	rm -rf target oracle/target bench/target rust/target

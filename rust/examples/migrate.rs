@@ -5,7 +5,7 @@
 //! The packets are not QUIC's: no handshake, no encryption, no packet numbers. A datagram is the destination ID, 8 bytes, and frames. PATH_CHALLENGE,
 //! PATH_RESPONSE, NEW_CONNECTION_ID and RETIRE_CONNECTION_ID have the bytes of RFC 9000 (its varints are one byte below 64).
 //!
-//!     cargo run --example migrate --features paths
+//!     cargo run --example migrate
 
 use std::collections::hash_map::RandomState;
 use std::error::Error;

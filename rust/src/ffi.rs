@@ -301,11 +301,7 @@ extern "C" {
     pub fn vig_ids_scid_at(t: &Ids, place: u64) -> ItemAnswer;
     pub fn vig_ids_dcid_count(t: &Ids) -> Counted;
     pub fn vig_ids_dcid_at(t: &Ids, place: u64) -> ItemAnswer;
-}
 
-// SAFETY: as above.
-#[cfg(feature = "paths")]
-extern "C" {
     pub fn vig_paths_fresh(pair: FourTuple, max_datagram_size: u64, limit: u64, factor: u64, server: bool) -> PathsDoneOut;
     pub fn vig_paths_insert_path(t: &mut Paths, pair: FourTuple, max_datagram_size: u64) -> Counted;
     pub fn vig_paths_len(t: &Paths) -> Counted;

@@ -3,7 +3,7 @@
 //! The core behind this crate is written in Rattle, and every function of it is proved to meet its contract. It does what `cid.rs`, `path.rs` and `timer.rs` of
 //! tquic 1.6.0 do, under the same names. docs/RULES.md of the project says what each call answers and leaves; the docs here name its headings.
 //!
-//! Three states, [`Timers`], [`Ids`] and `Paths`, each of a fixed size, with no allocation in the core, no clock and no globals. Their
+//! Three states, [`Timers`], [`Ids`] and [`Paths`], each of a fixed size, with no allocation in the core, no clock and no globals. Their
 //! fields can't be written from outside, so a state that a `fresh` accepted is never [`Refusal::Malformed`]. Each call answers `Result<_, Refusal>`. A refusal
 //! leaves what RULES.md names with it, mostly nothing changed.
 //!
@@ -29,20 +29,15 @@
 //!
 //! `examples/migrate.rs` is a small server whose client changes its address in mid-push.
 
-#![cfg_attr(not(feature = "paths"), allow(dead_code))]
-
 mod ffi;
 mod ids;
+mod paths;
 mod refusal;
 mod time;
 mod timers;
 mod values;
 
-#[cfg(feature = "paths")]
-mod paths;
-
 pub use ids::{Ids, Item, NewConnectionIdFrame};
-#[cfg(feature = "paths")]
 pub use paths::{Path, PathState, Paths, Response, SentChallenge};
 pub use refusal::Refusal;
 pub use time::{Clock, Moment, Span};
