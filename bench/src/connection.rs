@@ -5,6 +5,8 @@ pub use crate::shims::{pmtu, recovery, SpaceId};
 
 #[path = "ids.rs"]
 pub mod ids;
+#[path = "paths.rs"]
+pub mod paths;
 #[path = "timers.rs"]
 pub mod timers;
 #[path = "values.rs"]
@@ -67,4 +69,62 @@ pub mod cid {
 #[allow(warnings)]
 pub mod path {
     include!(concat!(env!("OUT_DIR"), "/path.rs"));
+
+    use super::paths::{Address, Challenge, Pair, Path as Ours, Paths, Received, Sent, NO_PATH};
+    use super::values::Moment;
+
+    impl PathMap {
+        /// A private field that some calls are given.
+        pub fn server(&self) -> bool {
+            self.is_server
+        }
+
+        /// What ours would be in its place; the clock stands at 0.
+        pub fn seen(&self) -> Paths {
+            let moment = |at: Instant| Moment { us: at.duration_since(Instant::now()).as_micros() as u64 };
+            let challenge = |place: Option<&([u8; 8], usize, Instant, Instant)>| match place {
+                Some((data, size, sent, deadline)) => Challenge {
+                    data: u64::from_be_bytes(*data),
+                    size: *size as u64,
+                    sent: moment(*sent),
+                    deadline: moment(*deadline),
+                },
+                None => NO_PATH.sent_chals.items[0],
+            };
+            let path = |id: usize, path: &Path| Ours {
+                pair: Pair { local: Address::seen(&path.local_addr), remote: Address::seen(&path.remote_addr) },
+                recv_chals: Received {
+                    items: std::array::from_fn(|i| path.recv_chals.get(i).map_or(0, |data| u64::from_be_bytes(*data))),
+                    count: path.recv_chals.len(),
+                },
+                sent_chals: Sent {
+                    items: std::array::from_fn(|i| challenge(path.sent_chals.get(i))),
+                    count: path.sent_chals.len(),
+                },
+                max_datagram_size: path.recovery.max_datagram_size as u64,
+                scid_seq: path.scid_seq.unwrap_or(0),
+                dcid_seq: path.dcid_seq.unwrap_or(0),
+                lost_chal: path.lost_chal as u64,
+                max_challenge_size: path.max_challenge_size as u64,
+                anti_ampl_limit: path.anti_ampl_limit as u64,
+                state: path.state as u8,
+                has_scid: path.scid_seq.is_some(),
+                has_dcid: path.dcid_seq.is_some(),
+                active: path.active,
+                need_send_challenge: path.need_send_challenge,
+                verified_peer_address: path.verified_peer_address,
+                peer_verified_local_address: path.peer_verified_local_address,
+                need_send_ping: path.need_send_ping,
+                listed: self.addrs.get(&(path.local_addr, path.remote_addr)) == Some(&id),
+            };
+            Paths {
+                items: std::array::from_fn(|id| self.paths.get(id).map_or(NO_PATH, |at| path(id, at))),
+                count: self.paths.len(),
+                max_paths: self.max_paths as u64,
+                anti_ampl_factor: self.anti_ampl_factor as u64,
+                is_multipath: self.is_multipath,
+                is_server: self.is_server,
+            }
+        }
+    }
 }

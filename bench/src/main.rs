@@ -17,7 +17,7 @@ use std::net::SocketAddr;
 use std::time::{Duration, Instant};
 use std::{cmp, fmt};
 
-use connection::{ids, timers, values};
+use connection::{ids, paths, timers, values};
 use error::Error;
 
 include!(concat!(env!("OUT_DIR"), "/error_module.rs"));
@@ -31,7 +31,8 @@ const _: [&[u8]; 2] =
     [include_bytes!("../../target/staticlib/libvignorasc.a"), include_bytes!("../../target/staticlib/libby_value.a")];
 
 /// The areas, in the order of the tables.
-const AREAS: [fn() -> Area; 4] = [values::area, timers::area, ids::area::<false>, ids::area::<true>];
+const AREAS: [fn() -> Area; 6] =
+    [values::area, timers::area, ids::area::<false>, ids::area::<true>, paths::area::<false>, paths::area::<true>];
 
 /// The calls over one kind of state.
 pub struct Area {
