@@ -1,9 +1,12 @@
 # Each target is a command that a person could type.
 CALLS ?= 100000
+FUZZ ?= 100000
 SEED ?= 1
 AREAS ?= $(shell cat tools/areas)
+PREFIX ?= /usr/local
+LIB ?= target/staticlib/libvignorasc.a
 
-.PHONY: demo test trials bench host sample clean
+.PHONY: demo test trials bench host install sample clean
 
 # The main job: prove the story's program and everything below it, run it, and show what it says.
 demo:
@@ -21,10 +24,22 @@ trials:
 bench:
 	bench/run
 
-# The library from C and from Rust: layouts held together, a C program, the crate's tests, and a server on loopback whose client changes its address.
+# The library from C and from Rust: layouts held together, a C program, the crate's tests, a server on loopback whose client changes its address, an
+# installation, and damaged states (FUZZ of them, from SEED).
 host:
 	rt staticlib vignorasc
-	tests/host/run
+	FUZZ=$(FUZZ) SEED=$(SEED) tests/host/run
+
+# What a host links: the archive, the header and pkg-config's file, under PREFIX. DESTDIR goes before it, for packages.
+install: $(LIB)
+	install -d $(DESTDIR)$(PREFIX)/lib/pkgconfig $(DESTDIR)$(PREFIX)/include
+	install -m 644 $(LIB) $(DESTDIR)$(PREFIX)/lib/libvignorasc.a
+	install -m 644 include/vignorasc.h $(DESTDIR)$(PREFIX)/include/vignorasc.h
+	sed -e 's|@PREFIX@|$(abspath $(PREFIX))|' -e "s|@VERSION@|$$(sed -n 's/^version = "\(.*\)"/\1/p' rust/Cargo.toml)|" vignorasc.pc.in > $(DESTDIR)$(PREFIX)/lib/pkgconfig/vignorasc.pc
+
+# Made where it is missing. After an edit, rt staticlib vignorasc makes it again.
+$(LIB):
+	rt staticlib vignorasc
 
 # The stored trace that the gate replays, made again by the Rust.
 sample:

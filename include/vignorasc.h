@@ -11,7 +11,7 @@
  *
  * Every answer begins with `refusal`: 0 where the call was accepted. On a refusal every other field is zero, and RULES.md, "Refusals", says what the state is left as.
  *
- * tests/host holds this file to the library's own definitions: every struct, every offset, every prototype. */
+ * tests/host holds this file to the library's own definitions: every struct, every offset, every prototype, every number of an enum. */
 #ifndef VIGNORASC_H
 #define VIGNORASC_H
 

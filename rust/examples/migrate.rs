@@ -16,7 +16,7 @@ use std::time::{Duration, Instant};
 use vignorasc::{Clock, ConnectionId, FourTuple, Ids, NewConnectionIdFrame, Paths, Refusal, ResetToken, Span, Timer, Timers};
 
 /// Both sides give up then.
-const PATIENCE: Duration = Duration::from_secs(5);
+const PATIENCE: Duration = Duration::from_secs(20);
 /// The longest wait for a datagram.
 const QUIET: Duration = Duration::from_millis(40);
 const PUSH: usize = 200_000;

@@ -1,7 +1,8 @@
 //! The library's structs and functions, as its own definitions have them. tests/host holds this file to them: names, types, order, sizes, offsets, signatures.
 //! Two answers have the same name in two crates and carry the crate's here: IdsDoneOut and PathsDoneOut, IdsFoundAnswer and PathsFoundAnswer.
 
-/// Declares `#[repr(C)]` structs and, for the tests, a text of their layout, so that no struct can be left out of it.
+/// Declares `#[repr(C)]` structs and, for the tests, a text of their layout, so that no struct can be left out of it; for tests/host/fuzz, which has this file as
+/// a module too, where their fields are.
 macro_rules! structs {
     ($($name:ident { $($field:ident: $type:ty,)* })*) => {
         $(
@@ -9,6 +10,13 @@ macro_rules! structs {
             #[derive(Clone, Copy, Debug, PartialEq, Eq)]
             pub struct $name {
                 $(pub $field: $type,)*
+            }
+
+            #[cfg(fuzz)]
+            impl crate::parts::Parts for $name {
+                fn note(at: usize, map: &mut crate::parts::Map) {
+                    $(<$type>::note(at + std::mem::offset_of!($name, $field), map);)*
+                }
             }
         )*
 
@@ -254,30 +262,32 @@ structs! {
     }
 }
 
-// SAFETY, for every call below: a reference is a pointer to a whole state, which lives through the call and is shared or exclusive as the call takes it;
-// every bool is a Rust bool; the library asks nothing else, keeps no pointer and has no globals.
-extern "C" {
-    pub fn vig_wire_code(number: u64) -> u64;
+// SAFETY: the declarations are the library's own, to which tests/host holds them, so every call is safe: a reference is a pointer to a whole state, which lives
+// through the call and is shared or exclusive as the call takes it; every bool is a Rust bool; the library asks nothing else, keeps no pointer and has no
+// globals.
+#[allow(unsafe_code)]
+unsafe extern "C" {
+    pub safe fn vig_wire_code(number: u64) -> u64;
 
-    pub fn vig_timers_fresh() -> TimerTable;
-    pub fn vig_timers_set(t: &mut TimerTable, timer: u64, at: Moment) -> Done;
-    pub fn vig_timers_get(t: &TimerTable, timer: u64) -> Timed;
-    pub fn vig_timers_stop(t: &mut TimerTable, timer: u64) -> Done;
-    pub fn vig_timers_next_timeout(t: &TimerTable) -> Timed;
-    pub fn vig_timers_is_expired(t: &TimerTable, timer: u64, moment: Moment) -> Flagged;
+    pub safe fn vig_timers_fresh() -> TimerTable;
+    pub safe fn vig_timers_set(t: &mut TimerTable, timer: u64, at: Moment) -> Done;
+    pub safe fn vig_timers_get(t: &TimerTable, timer: u64) -> Timed;
+    pub safe fn vig_timers_stop(t: &mut TimerTable, timer: u64) -> Done;
+    pub safe fn vig_timers_next_timeout(t: &TimerTable) -> Timed;
+    pub safe fn vig_timers_is_expired(t: &TimerTable, timer: u64, moment: Moment) -> Flagged;
 
-    pub fn vig_ids_fresh(dlimit: u64, cid: ConnectionId, path: u64, token: Token) -> IdsDoneOut;
-    pub fn vig_ids_set_initial_dcid(t: &mut Ids, cid: ConnectionId, token: Token, has: bool, path: u64) -> Done;
-    pub fn vig_ids_set_scid_limit(t: &mut Ids, n: u64) -> Done;
-    pub fn vig_ids_get_scid(t: &Ids, seq: u64) -> ItemAnswer;
-    pub fn vig_ids_get_dcid(t: &Ids, seq: u64) -> ItemAnswer;
-    pub fn vig_ids_find_scid(t: &Ids, cid: ConnectionId) -> IdsFoundAnswer;
-    pub fn vig_ids_mark_scid_used(t: &mut Ids, seq: u64, path: u64) -> Done;
-    pub fn vig_ids_mark_dcid_used(t: &mut Ids, seq: u64, path: u64) -> Done;
-    pub fn vig_ids_unused_scids(t: &Ids) -> Counted;
-    pub fn vig_ids_unused_dcids(t: &Ids) -> Counted;
-    pub fn vig_ids_lowest_unused_dcid_seq(t: &Ids) -> Numbered;
-    pub fn vig_ids_add_scid(
+    pub safe fn vig_ids_fresh(dlimit: u64, cid: ConnectionId, path: u64, token: Token) -> IdsDoneOut;
+    pub safe fn vig_ids_set_initial_dcid(t: &mut Ids, cid: ConnectionId, token: Token, has: bool, path: u64) -> Done;
+    pub safe fn vig_ids_set_scid_limit(t: &mut Ids, n: u64) -> Done;
+    pub safe fn vig_ids_get_scid(t: &Ids, seq: u64) -> ItemAnswer;
+    pub safe fn vig_ids_get_dcid(t: &Ids, seq: u64) -> ItemAnswer;
+    pub safe fn vig_ids_find_scid(t: &Ids, cid: ConnectionId) -> IdsFoundAnswer;
+    pub safe fn vig_ids_mark_scid_used(t: &mut Ids, seq: u64, path: u64) -> Done;
+    pub safe fn vig_ids_mark_dcid_used(t: &mut Ids, seq: u64, path: u64) -> Done;
+    pub safe fn vig_ids_unused_scids(t: &Ids) -> Counted;
+    pub safe fn vig_ids_unused_dcids(t: &Ids) -> Counted;
+    pub safe fn vig_ids_lowest_unused_dcid_seq(t: &Ids) -> Numbered;
+    pub safe fn vig_ids_add_scid(
         t: &mut Ids,
         cid: ConnectionId,
         token: Token,
@@ -286,52 +296,58 @@ extern "C" {
         path: u64,
         leave: bool,
     ) -> Counted;
-    pub fn vig_ids_add_dcid(t: &mut Ids, cid: ConnectionId, seq: u64, token: ResetToken, retire_prior_to: u64)
-        -> RetiredAnswer;
-    pub fn vig_ids_retire_scid(t: &mut Ids, seq: u64, packet: ConnectionId) -> Numbered;
-    pub fn vig_ids_mark_scid_to_advertise(t: &mut Ids, seq: u64, on: bool) -> Done;
-    pub fn vig_ids_mark_dcid_to_retire(t: &mut Ids, seq: u64, on: bool) -> Done;
-    pub fn vig_ids_next_scid_to_advertise(t: &Ids) -> Numbered;
-    pub fn vig_ids_next_dcid_to_retire(t: &Ids) -> Numbered;
-    pub fn vig_ids_create_new_connection_id_frame(t: &Ids, seq: u64) -> FrameAnswer;
-    pub fn vig_ids_need_send_cid_control_frames(t: &Ids) -> Flagged;
-    pub fn vig_ids_zero_length_scid(t: &Ids) -> Flagged;
-    pub fn vig_ids_zero_length_dcid(t: &Ids) -> Flagged;
-    pub fn vig_ids_scid_count(t: &Ids) -> Counted;
-    pub fn vig_ids_scid_at(t: &Ids, place: u64) -> ItemAnswer;
-    pub fn vig_ids_dcid_count(t: &Ids) -> Counted;
-    pub fn vig_ids_dcid_at(t: &Ids, place: u64) -> ItemAnswer;
+    pub safe fn vig_ids_add_dcid(
+        t: &mut Ids,
+        cid: ConnectionId,
+        seq: u64,
+        token: ResetToken,
+        retire_prior_to: u64,
+    ) -> RetiredAnswer;
+    pub safe fn vig_ids_retire_scid(t: &mut Ids, seq: u64, packet: ConnectionId) -> Numbered;
+    pub safe fn vig_ids_mark_scid_to_advertise(t: &mut Ids, seq: u64, on: bool) -> Done;
+    pub safe fn vig_ids_mark_dcid_to_retire(t: &mut Ids, seq: u64, on: bool) -> Done;
+    pub safe fn vig_ids_next_scid_to_advertise(t: &Ids) -> Numbered;
+    pub safe fn vig_ids_next_dcid_to_retire(t: &Ids) -> Numbered;
+    pub safe fn vig_ids_create_new_connection_id_frame(t: &Ids, seq: u64) -> FrameAnswer;
+    pub safe fn vig_ids_need_send_cid_control_frames(t: &Ids) -> Flagged;
+    pub safe fn vig_ids_zero_length_scid(t: &Ids) -> Flagged;
+    pub safe fn vig_ids_zero_length_dcid(t: &Ids) -> Flagged;
+    pub safe fn vig_ids_scid_count(t: &Ids) -> Counted;
+    pub safe fn vig_ids_scid_at(t: &Ids, place: u64) -> ItemAnswer;
+    pub safe fn vig_ids_dcid_count(t: &Ids) -> Counted;
+    pub safe fn vig_ids_dcid_at(t: &Ids, place: u64) -> ItemAnswer;
 
-    pub fn vig_paths_fresh(pair: FourTuple, max_datagram_size: u64, limit: u64, factor: u64, server: bool) -> PathsDoneOut;
-    pub fn vig_paths_insert_path(t: &mut Paths, pair: FourTuple, max_datagram_size: u64) -> Counted;
-    pub fn vig_paths_len(t: &Paths) -> Counted;
-    pub fn vig_paths_get(t: &Paths, id: u64) -> PathAnswer;
-    pub fn vig_paths_get_path_id(t: &Paths, pair: FourTuple) -> Numbered;
-    pub fn vig_paths_get_active(t: &Paths) -> PathsFoundAnswer;
-    pub fn vig_paths_local_addr(t: &Paths, id: u64) -> AddressAnswer;
-    pub fn vig_paths_remote_addr(t: &Paths, id: u64) -> AddressAnswer;
-    pub fn vig_paths_state(t: &Paths, id: u64) -> Counted;
-    pub fn vig_paths_validated(t: &Paths, id: u64) -> Flagged;
-    pub fn vig_paths_active(t: &Paths, id: u64) -> Flagged;
-    pub fn vig_paths_path_chal_initiated(t: &Paths, id: u64) -> Flagged;
-    pub fn vig_paths_need_send_validation_frames(t: &Paths, id: u64) -> Flagged;
-    pub fn vig_paths_need_expand_padding_frames(t: &Paths, id: u64) -> Flagged;
-    pub fn vig_paths_initiate_path_chal(t: &mut Paths, id: u64) -> Done;
-    pub fn vig_paths_pop_recv_chal(t: &mut Paths, id: u64) -> Numbered;
-    pub fn vig_paths_on_path_chal_received(t: &mut Paths, id: u64, data: u64) -> Done;
-    pub fn vig_paths_on_path_chal_sent(t: &mut Paths, id: u64, data: u64, size: u64, sent: Moment) -> Done;
-    pub fn vig_paths_on_path_resp_received(t: &mut Paths, id: u64, data: u64, moment: Moment) -> RespondedAnswer;
-    pub fn vig_paths_on_path_chal_timeout(t: &mut Paths, moment: Moment) -> Done;
-    pub fn vig_paths_min_path_chal_timer(t: &Paths) -> Timed;
-    pub fn vig_paths_inc_anti_ampl_limit(t: &mut Paths, id: u64, length: u64) -> Done;
-    pub fn vig_paths_dec_anti_ampl_limit(t: &mut Paths, id: u64, length: u64) -> Done;
-    pub fn vig_paths_cmp_anti_ampl_limit(t: &Paths, id: u64, wish: u64) -> Counted;
-    pub fn vig_paths_mark_ping(t: &mut Paths, has: bool, pair: FourTuple) -> Done;
-    pub fn vig_paths_enable_multipath(t: &mut Paths) -> Done;
-    pub fn vig_paths_set_scid_seq(t: &mut Paths, id: u64, has: bool, seq: u64) -> Done;
-    pub fn vig_paths_set_dcid_seq(t: &mut Paths, id: u64, has: bool, seq: u64) -> Done;
-    pub fn vig_paths_set_active(t: &mut Paths, id: u64, on: bool) -> Done;
-    pub fn vig_paths_mark_verified(t: &mut Paths, id: u64) -> Done;
+    pub safe fn vig_paths_fresh(pair: FourTuple, max_datagram_size: u64, limit: u64, factor: u64, server: bool)
+        -> PathsDoneOut;
+    pub safe fn vig_paths_insert_path(t: &mut Paths, pair: FourTuple, max_datagram_size: u64) -> Counted;
+    pub safe fn vig_paths_len(t: &Paths) -> Counted;
+    pub safe fn vig_paths_get(t: &Paths, id: u64) -> PathAnswer;
+    pub safe fn vig_paths_get_path_id(t: &Paths, pair: FourTuple) -> Numbered;
+    pub safe fn vig_paths_get_active(t: &Paths) -> PathsFoundAnswer;
+    pub safe fn vig_paths_local_addr(t: &Paths, id: u64) -> AddressAnswer;
+    pub safe fn vig_paths_remote_addr(t: &Paths, id: u64) -> AddressAnswer;
+    pub safe fn vig_paths_state(t: &Paths, id: u64) -> Counted;
+    pub safe fn vig_paths_validated(t: &Paths, id: u64) -> Flagged;
+    pub safe fn vig_paths_active(t: &Paths, id: u64) -> Flagged;
+    pub safe fn vig_paths_path_chal_initiated(t: &Paths, id: u64) -> Flagged;
+    pub safe fn vig_paths_need_send_validation_frames(t: &Paths, id: u64) -> Flagged;
+    pub safe fn vig_paths_need_expand_padding_frames(t: &Paths, id: u64) -> Flagged;
+    pub safe fn vig_paths_initiate_path_chal(t: &mut Paths, id: u64) -> Done;
+    pub safe fn vig_paths_pop_recv_chal(t: &mut Paths, id: u64) -> Numbered;
+    pub safe fn vig_paths_on_path_chal_received(t: &mut Paths, id: u64, data: u64) -> Done;
+    pub safe fn vig_paths_on_path_chal_sent(t: &mut Paths, id: u64, data: u64, size: u64, sent: Moment) -> Done;
+    pub safe fn vig_paths_on_path_resp_received(t: &mut Paths, id: u64, data: u64, moment: Moment) -> RespondedAnswer;
+    pub safe fn vig_paths_on_path_chal_timeout(t: &mut Paths, moment: Moment) -> Done;
+    pub safe fn vig_paths_min_path_chal_timer(t: &Paths) -> Timed;
+    pub safe fn vig_paths_inc_anti_ampl_limit(t: &mut Paths, id: u64, length: u64) -> Done;
+    pub safe fn vig_paths_dec_anti_ampl_limit(t: &mut Paths, id: u64, length: u64) -> Done;
+    pub safe fn vig_paths_cmp_anti_ampl_limit(t: &Paths, id: u64, wish: u64) -> Counted;
+    pub safe fn vig_paths_mark_ping(t: &mut Paths, has: bool, pair: FourTuple) -> Done;
+    pub safe fn vig_paths_enable_multipath(t: &mut Paths) -> Done;
+    pub safe fn vig_paths_set_scid_seq(t: &mut Paths, id: u64, has: bool, seq: u64) -> Done;
+    pub safe fn vig_paths_set_dcid_seq(t: &mut Paths, id: u64, has: bool, seq: u64) -> Done;
+    pub safe fn vig_paths_set_active(t: &mut Paths, id: u64, on: bool) -> Done;
+    pub safe fn vig_paths_mark_verified(t: &mut Paths, id: u64) -> Done;
 }
 
 #[cfg(test)]

@@ -5,18 +5,26 @@ use crate::{ffi, ConnectionId, Refusal, ResetToken};
 /// A connection ID with its sequence, its reset token, and the path that uses it.
 #[derive(Clone, Copy, Debug, PartialEq, Eq)]
 pub struct Item {
+    /// The sequence number.
     pub seq: u64,
+    /// The ID.
     pub cid: ConnectionId,
+    /// Every item but that with sequence 0 has one.
     pub token: Option<ResetToken>,
+    /// The id of the path.
     pub path: Option<usize>,
 }
 
 /// What a NEW_CONNECTION_ID frame says (RFC 9000, 19.15).
 #[derive(Clone, Copy, Debug, PartialEq, Eq)]
 pub struct NewConnectionIdFrame {
+    /// Sequence Number.
     pub seq: u64,
+    /// Retire Prior To.
     pub retire_prior_to: u64,
+    /// Connection ID, whose length goes before it.
     pub cid: ConnectionId,
+    /// Stateless Reset Token.
     pub token: ResetToken,
 }
 
@@ -45,7 +53,7 @@ pub struct Ids(ffi::Ids);
 impl Ids {
     /// One source ID, with sequence 0, on its path. At most `dcid_limit` destination IDs are to be stored.
     pub fn fresh(dcid_limit: u64, cid: ConnectionId, path: usize, token: Option<ResetToken>) -> Result<Ids, Refusal> {
-        let out = unsafe { ffi::vig_ids_fresh(dcid_limit, cid.0, path as u64, token_in(token)) };
+        let out = ffi::vig_ids_fresh(dcid_limit, cid.0, path as u64, token_in(token));
         accepted(out.answer.refusal, || Ids(out.ids))
     }
 
@@ -57,55 +65,55 @@ impl Ids {
         path: Option<usize>,
     ) -> Result<(), Refusal> {
         let (has, path) = split(path.map(|id| id as u64));
-        unsafe { ffi::vig_ids_set_initial_dcid(&mut self.0, cid.0, token_in(token), has, path) }.result()
+        ffi::vig_ids_set_initial_dcid(&mut self.0, cid.0, token_in(token), has, path).result()
     }
 
     /// The most source IDs that the peer allows, clamped to 2..=16.
     pub fn set_scid_limit(&mut self, limit: u64) -> Result<(), Refusal> {
-        unsafe { ffi::vig_ids_set_scid_limit(&mut self.0, limit) }.result()
+        ffi::vig_ids_set_scid_limit(&mut self.0, limit).result()
     }
 
     /// The source item with the sequence.
     pub fn get_scid(&self, seq: u64) -> Result<Item, Refusal> {
-        let a = unsafe { ffi::vig_ids_get_scid(&self.0, seq) };
+        let a = ffi::vig_ids_get_scid(&self.0, seq);
         accepted(a.refusal, || item(a.item))
     }
 
     /// The destination item with the sequence.
     pub fn get_dcid(&self, seq: u64) -> Result<Item, Refusal> {
-        let a = unsafe { ffi::vig_ids_get_dcid(&self.0, seq) };
+        let a = ffi::vig_ids_get_dcid(&self.0, seq);
         accepted(a.refusal, || item(a.item))
     }
 
     /// The sequence and the path of the first source item with the ID.
     pub fn find_scid(&self, cid: ConnectionId) -> Result<Option<(u64, Option<usize>)>, Refusal> {
-        let a = unsafe { ffi::vig_ids_find_scid(&self.0, cid.0) };
+        let a = ffi::vig_ids_find_scid(&self.0, cid.0);
         accepted(a.refusal, || a.present.then_some((a.seq, a.has_path.then_some(a.path as usize))))
     }
 
     /// The path uses the source item.
     pub fn mark_scid_used(&mut self, seq: u64, path: usize) -> Result<(), Refusal> {
-        unsafe { ffi::vig_ids_mark_scid_used(&mut self.0, seq, path as u64) }.result()
+        ffi::vig_ids_mark_scid_used(&mut self.0, seq, path as u64).result()
     }
 
     /// The path uses the destination item.
     pub fn mark_dcid_used(&mut self, seq: u64, path: usize) -> Result<(), Refusal> {
-        unsafe { ffi::vig_ids_mark_dcid_used(&mut self.0, seq, path as u64) }.result()
+        ffi::vig_ids_mark_dcid_used(&mut self.0, seq, path as u64).result()
     }
 
     /// How many source IDs no path uses.
     pub fn unused_scids(&self) -> Result<usize, Refusal> {
-        unsafe { ffi::vig_ids_unused_scids(&self.0) }.size()
+        ffi::vig_ids_unused_scids(&self.0).size()
     }
 
     /// How many destination IDs no path uses: none where they have zero length.
     pub fn unused_dcids(&self) -> Result<usize, Refusal> {
-        unsafe { ffi::vig_ids_unused_dcids(&self.0) }.size()
+        ffi::vig_ids_unused_dcids(&self.0).size()
     }
 
     /// The lowest destination sequence that no path uses.
     pub fn lowest_unused_dcid_seq(&self) -> Result<Option<u64>, Refusal> {
-        unsafe { ffi::vig_ids_lowest_unused_dcid_seq(&self.0) }.result()
+        ffi::vig_ids_lowest_unused_dcid_seq(&self.0).result()
     }
 
     /// A new source ID: the answer is its sequence. `retire_if_needed`: where the peer's limit is reached, older ones may be retired.
@@ -118,7 +126,7 @@ impl Ids {
         retire_if_needed: bool,
     ) -> Result<u64, Refusal> {
         let (has, path) = split(path.map(|id| id as u64));
-        unsafe { ffi::vig_ids_add_scid(&mut self.0, cid.0, token_in(token), advertise, has, path, retire_if_needed) }.result()
+        ffi::vig_ids_add_scid(&mut self.0, cid.0, token_in(token), advertise, has, path, retire_if_needed).result()
     }
 
     /// A NEW_CONNECTION_ID frame came: the answer is the sequence and the path of each ID in use that it retired. They are queued to be retired,
@@ -131,38 +139,38 @@ impl Ids {
         retire_prior_to: u64,
     ) -> Result<Vec<(u64, usize)>, Refusal> {
         let token = ffi::ResetToken { bytes: token.0 };
-        let a = unsafe { ffi::vig_ids_add_dcid(&mut self.0, cid.0, seq, token, retire_prior_to) };
-        accepted(a.refusal, || a.used.pairs[..a.used.count].iter().map(|used| (used.seq, used.path as usize)).collect())
+        let a = ffi::vig_ids_add_dcid(&mut self.0, cid.0, seq, token, retire_prior_to);
+        accepted(a.refusal, || a.used.pairs.iter().take(a.used.count).map(|used| (used.seq, used.path as usize)).collect())
     }
 
     /// A RETIRE_CONNECTION_ID frame came, in a packet sent to the ID `packet`: the answer is the path that used the ID.
     pub fn retire_scid(&mut self, seq: u64, packet: ConnectionId) -> Result<Option<usize>, Refusal> {
-        unsafe { ffi::vig_ids_retire_scid(&mut self.0, seq, packet.0) }.path()
+        ffi::vig_ids_retire_scid(&mut self.0, seq, packet.0).path()
     }
 
     /// The source sequence is to be announced, or no longer.
     pub fn mark_scid_to_advertise(&mut self, seq: u64, on: bool) -> Result<(), Refusal> {
-        unsafe { ffi::vig_ids_mark_scid_to_advertise(&mut self.0, seq, on) }.result()
+        ffi::vig_ids_mark_scid_to_advertise(&mut self.0, seq, on).result()
     }
 
     /// The destination sequence is to be retired, or no longer.
     pub fn mark_dcid_to_retire(&mut self, seq: u64, on: bool) -> Result<(), Refusal> {
-        unsafe { ffi::vig_ids_mark_dcid_to_retire(&mut self.0, seq, on) }.result()
+        ffi::vig_ids_mark_dcid_to_retire(&mut self.0, seq, on).result()
     }
 
     /// The source sequence that is to be announced next; it stays in the queue until it is unmarked.
     pub fn next_scid_to_advertise(&self) -> Result<Option<u64>, Refusal> {
-        unsafe { ffi::vig_ids_next_scid_to_advertise(&self.0) }.result()
+        ffi::vig_ids_next_scid_to_advertise(&self.0).result()
     }
 
     /// The destination sequence that is to be retired next; it stays in the queue until it is unmarked.
     pub fn next_dcid_to_retire(&self) -> Result<Option<u64>, Refusal> {
-        unsafe { ffi::vig_ids_next_dcid_to_retire(&self.0) }.result()
+        ffi::vig_ids_next_dcid_to_retire(&self.0).result()
     }
 
     /// The frame that announces the source ID.
     pub fn create_new_connection_id_frame(&self, seq: u64) -> Result<NewConnectionIdFrame, Refusal> {
-        let a = unsafe { ffi::vig_ids_create_new_connection_id_frame(&self.0, seq) };
+        let a = ffi::vig_ids_create_new_connection_id_frame(&self.0, seq);
         accepted(a.refusal, || NewConnectionIdFrame {
             seq: a.seq,
             retire_prior_to: a.retire_prior_to,
@@ -173,38 +181,38 @@ impl Ids {
 
     /// Whether something is to be announced or retired.
     pub fn need_send_cid_control_frames(&self) -> Result<bool, Refusal> {
-        unsafe { ffi::vig_ids_need_send_cid_control_frames(&self.0) }.result()
+        ffi::vig_ids_need_send_cid_control_frames(&self.0).result()
     }
 
     /// Whether our first source ID was empty.
     pub fn zero_length_scid(&self) -> Result<bool, Refusal> {
-        unsafe { ffi::vig_ids_zero_length_scid(&self.0) }.result()
+        ffi::vig_ids_zero_length_scid(&self.0).result()
     }
 
     /// Whether the first destination ID was empty.
     pub fn zero_length_dcid(&self) -> Result<bool, Refusal> {
-        unsafe { ffi::vig_ids_zero_length_dcid(&self.0) }.result()
+        ffi::vig_ids_zero_length_dcid(&self.0).result()
     }
 
     /// How many source IDs there are.
     pub fn scid_count(&self) -> Result<usize, Refusal> {
-        unsafe { ffi::vig_ids_scid_count(&self.0) }.size()
+        ffi::vig_ids_scid_count(&self.0).size()
     }
 
     /// The source item at a place, from 0, or none.
     pub fn scid_at(&self, place: usize) -> Result<Option<Item>, Refusal> {
-        let a = unsafe { ffi::vig_ids_scid_at(&self.0, place as u64) };
+        let a = ffi::vig_ids_scid_at(&self.0, place as u64);
         accepted(a.refusal, || a.present.then(|| item(a.item)))
     }
 
     /// How many destination IDs there are.
     pub fn dcid_count(&self) -> Result<usize, Refusal> {
-        unsafe { ffi::vig_ids_dcid_count(&self.0) }.size()
+        ffi::vig_ids_dcid_count(&self.0).size()
     }
 
     /// The destination item at a place, from 0, or none.
     pub fn dcid_at(&self, place: usize) -> Result<Option<Item>, Refusal> {
-        let a = unsafe { ffi::vig_ids_dcid_at(&self.0, place as u64) };
+        let a = ffi::vig_ids_dcid_at(&self.0, place as u64);
         accepted(a.refusal, || a.present.then(|| item(a.item)))
     }
 

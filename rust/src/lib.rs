@@ -27,7 +27,14 @@
 //! vignorasc::Timers::fresh().0.expires[0].set = true; // private
 //! ```
 //!
+//! Nothing here panics, whatever a peer or a host gives: what is out of form comes back as a refusal. The states are plain data, so two threads may work on two
+//! of them. The two larger ones are of 5.6 kB each; a server with many connections keeps them in a `Box`.
+//!
 //! `examples/migrate.rs` is a small server whose client changes its address in mid-push.
+
+// The library's declarations alone, in ffi.rs, are unsafe, and say why they may be called safely.
+#![deny(unsafe_code)]
+#![warn(missing_docs)]
 
 mod ffi;
 mod ids;

@@ -6,41 +6,64 @@ use std::net::SocketAddr;
 /// How far the validation of a path has come; a later one is higher.
 #[derive(Clone, Copy, Debug, PartialEq, Eq, PartialOrd, Ord, Hash)]
 pub enum PathState {
+    /// Its challenges went unanswered.
     Failed = 0,
+    /// Nothing was sent to validate it.
     Unknown = 1,
+    /// A challenge was sent.
     Validating = 2,
+    /// A response came, but none to a challenge in 1200 bytes or more.
     ValidatingMtu = 3,
+    /// It is the peer's, and carries 1200 bytes.
     Validated = 4,
 }
 
 /// A challenge that was sent and stands.
 #[derive(Clone, Copy, Debug, PartialEq, Eq)]
 pub struct SentChallenge {
+    /// As in the frame.
     pub data: [u8; 8],
     /// Of the datagram that carried it.
     pub size: usize,
+    /// When it was sent.
     pub sent: Moment,
+    /// When it counts as lost.
     pub deadline: Moment,
 }
 
 /// A path, as it stands: a copy.
 #[derive(Clone, Debug, PartialEq, Eq)]
+#[non_exhaustive] // hosts read it, and the library makes it
 pub struct Path {
+    /// Its addresses.
     pub pair: FourTuple,
+    /// The source sequence that it uses.
     pub scid_seq: Option<u64>,
+    /// The destination sequence that it uses.
     pub dcid_seq: Option<u64>,
+    /// The active flag.
     pub active: bool,
+    /// How far its validation has come.
     pub state: PathState,
+    /// Challenges received and not yet answered, the oldest first: at most 8.
     pub recv_chals: Vec<[u8; 8]>,
+    /// Challenges sent that stand, in the order of sending: at most 16.
     pub sent_chals: Vec<SentChallenge>,
+    /// A challenge is asked for.
     pub need_send_challenge: bool,
+    /// Challenges lost since the last response.
     pub lost_chal: u64,
+    /// The largest datagram whose challenge was answered.
     pub max_challenge_size: usize,
+    /// The peer's address is verified.
     pub verified_peer_address: bool,
+    /// The peer has challenged our address.
     pub peer_verified_local_address: bool,
     /// The credit.
     pub anti_ampl_limit: usize,
+    /// The size that datagrams are padded to.
     pub max_datagram_size: usize,
+    /// A ping is asked for.
     pub need_send_ping: bool,
     /// The path is the one that its pair names.
     pub listed: bool,
@@ -91,163 +114,168 @@ impl Paths {
     /// One path, Validated and active, with the id 0. At most `limit` paths, 1 to 8; `factor`: how many bytes a server may send an unverified address for each
     /// that came from it (RFC 9000, 8.1: 3).
     pub fn fresh(pair: FourTuple, max_datagram_size: usize, limit: usize, factor: u64, server: bool) -> Result<Paths, Refusal> {
-        let out = unsafe { ffi::vig_paths_fresh(pair.to_core(), max_datagram_size as u64, limit as u64, factor, server) };
+        let out = ffi::vig_paths_fresh(pair.to_core(), max_datagram_size as u64, limit as u64, factor, server);
         accepted(out.answer.refusal, || Paths(out.paths))
     }
 
     /// A new path: the answer is its id. At the limit it takes the place of one that isn't in use, and [`Refusal::Done`] says that there is none.
     pub fn insert_path(&mut self, pair: FourTuple, max_datagram_size: usize) -> Result<usize, Refusal> {
-        unsafe { ffi::vig_paths_insert_path(&mut self.0, pair.to_core(), max_datagram_size as u64) }.size()
+        ffi::vig_paths_insert_path(&mut self.0, pair.to_core(), max_datagram_size as u64).size()
     }
 
     /// How many paths there are. Never none, so there is no `is_empty`.
     #[allow(clippy::len_without_is_empty)]
     pub fn len(&self) -> Result<usize, Refusal> {
-        unsafe { ffi::vig_paths_len(&self.0) }.size()
+        ffi::vig_paths_len(&self.0).size()
     }
 
     /// The whole path.
     pub fn get(&self, id: usize) -> Result<Path, Refusal> {
-        let a = unsafe { ffi::vig_paths_get(&self.0, id as u64) };
+        let a = ffi::vig_paths_get(&self.0, id as u64);
         accepted(a.refusal, || path(&a.path))
     }
 
     /// The id of the path that the pair names.
     pub fn get_path_id(&self, pair: FourTuple) -> Result<Option<usize>, Refusal> {
-        unsafe { ffi::vig_paths_get_path_id(&self.0, pair.to_core()) }.path()
+        ffi::vig_paths_get_path_id(&self.0, pair.to_core()).path()
     }
 
     /// The first path with the active flag, and its id.
     pub fn get_active(&self) -> Result<(usize, Path), Refusal> {
-        let a = unsafe { ffi::vig_paths_get_active(&self.0) };
+        let a = ffi::vig_paths_get_active(&self.0);
         accepted(a.refusal, || (a.id as usize, path(&a.path)))
     }
 
+    /// Its local address.
     pub fn local_addr(&self, id: usize) -> Result<SocketAddr, Refusal> {
-        let a = unsafe { ffi::vig_paths_local_addr(&self.0, id as u64) };
+        let a = ffi::vig_paths_local_addr(&self.0, id as u64);
         accepted(a.refusal, || address_out(a.address))
     }
 
+    /// Its remote address.
     pub fn remote_addr(&self, id: usize) -> Result<SocketAddr, Refusal> {
-        let a = unsafe { ffi::vig_paths_remote_addr(&self.0, id as u64) };
+        let a = ffi::vig_paths_remote_addr(&self.0, id as u64);
         accepted(a.refusal, || address_out(a.address))
     }
 
+    /// How far its validation has come.
     pub fn state(&self, id: usize) -> Result<PathState, Refusal> {
-        let a = unsafe { ffi::vig_paths_state(&self.0, id as u64) };
+        let a = ffi::vig_paths_state(&self.0, id as u64);
         accepted(a.refusal, || state(a.number))
     }
 
+    /// Whether it is Validated.
     pub fn validated(&self, id: usize) -> Result<bool, Refusal> {
-        unsafe { ffi::vig_paths_validated(&self.0, id as u64) }.result()
+        ffi::vig_paths_validated(&self.0, id as u64).result()
     }
 
     /// Whether the path has the active flag and a destination sequence.
     pub fn active(&self, id: usize) -> Result<bool, Refusal> {
-        unsafe { ffi::vig_paths_active(&self.0, id as u64) }.result()
+        ffi::vig_paths_active(&self.0, id as u64).result()
     }
 
     /// Whether a challenge is asked for.
     pub fn path_chal_initiated(&self, id: usize) -> Result<bool, Refusal> {
-        unsafe { ffi::vig_paths_path_chal_initiated(&self.0, id as u64) }.result()
+        ffi::vig_paths_path_chal_initiated(&self.0, id as u64).result()
     }
 
     /// Whether a challenge or a response is to be sent, and a server has the credit for it: at least 64, on a verified path too (DIFFERENCES.md, D30).
     pub fn need_send_validation_frames(&self, id: usize) -> Result<bool, Refusal> {
-        unsafe { ffi::vig_paths_need_send_validation_frames(&self.0, id as u64) }.result()
+        ffi::vig_paths_need_send_validation_frames(&self.0, id as u64).result()
     }
 
     /// Whether datagrams on the path are to be padded to its size.
     pub fn need_expand_padding_frames(&self, id: usize) -> Result<bool, Refusal> {
-        unsafe { ffi::vig_paths_need_expand_padding_frames(&self.0, id as u64) }.result()
+        ffi::vig_paths_need_expand_padding_frames(&self.0, id as u64).result()
     }
 
     /// A challenge is asked for.
     pub fn initiate_path_chal(&mut self, id: usize) -> Result<(), Refusal> {
-        unsafe { ffi::vig_paths_initiate_path_chal(&mut self.0, id as u64) }.result()
+        ffi::vig_paths_initiate_path_chal(&mut self.0, id as u64).result()
     }
 
     /// Takes the oldest challenge received out: its data is to be sent back.
     pub fn pop_recv_chal(&mut self, id: usize) -> Result<Option<[u8; 8]>, Refusal> {
-        let data = unsafe { ffi::vig_paths_pop_recv_chal(&mut self.0, id as u64) }.result()?;
+        let data = ffi::vig_paths_pop_recv_chal(&mut self.0, id as u64).result()?;
         Ok(data.map(u64::to_be_bytes))
     }
 
     /// A PATH_CHALLENGE frame came.
     pub fn on_path_chal_received(&mut self, id: usize, data: [u8; 8]) -> Result<(), Refusal> {
-        unsafe { ffi::vig_paths_on_path_chal_received(&mut self.0, id as u64, u64::from_be_bytes(data)) }.result()
+        ffi::vig_paths_on_path_chal_received(&mut self.0, id as u64, u64::from_be_bytes(data)).result()
     }
 
     /// A PATH_CHALLENGE frame was sent, in a datagram of that size.
     pub fn on_path_chal_sent(&mut self, id: usize, data: [u8; 8], size: usize, sent: Moment) -> Result<(), Refusal> {
         let data = u64::from_be_bytes(data);
-        unsafe { ffi::vig_paths_on_path_chal_sent(&mut self.0, id as u64, data, size as u64, sent.0) }.result()
+        ffi::vig_paths_on_path_chal_sent(&mut self.0, id as u64, data, size as u64, sent.0).result()
     }
 
     /// A PATH_RESPONSE frame came. On a path that isn't Validated it verifies the peer's address, as in tquic, even where it matches no challenge
     /// (DIFFERENCES.md, D24): a server that wants a match looks for the data among [`Path::sent_chals`] first.
     pub fn on_path_resp_received(&mut self, id: usize, data: [u8; 8], now: Moment) -> Result<Response, Refusal> {
-        let a = unsafe { ffi::vig_paths_on_path_resp_received(&mut self.0, id as u64, u64::from_be_bytes(data), now.0) };
-        let spans = &a.spans.items[..a.spans.count];
-        accepted(a.refusal, || Response { validated: a.yes, spans: spans.iter().map(|&span| Span(span)).collect() })
+        let a = ffi::vig_paths_on_path_resp_received(&mut self.0, id as u64, u64::from_be_bytes(data), now.0);
+        let spans = a.spans.items.into_iter().take(a.spans.count);
+        accepted(a.refusal, || Response { validated: a.yes, spans: spans.map(Span).collect() })
     }
 
     /// Challenges that are due count as lost, on every path that is being validated.
     pub fn on_path_chal_timeout(&mut self, now: Moment) -> Result<(), Refusal> {
-        unsafe { ffi::vig_paths_on_path_chal_timeout(&mut self.0, now.0) }.result()
+        ffi::vig_paths_on_path_chal_timeout(&mut self.0, now.0).result()
     }
 
     /// When [`Paths::on_path_chal_timeout`] is due next.
     pub fn min_path_chal_timer(&self) -> Result<Option<Moment>, Refusal> {
-        unsafe { ffi::vig_paths_min_path_chal_timer(&self.0) }.result()
+        ffi::vig_paths_min_path_chal_timer(&self.0).result()
     }
 
     /// A datagram came on the path: the credit of an unverified one rises by factor x length.
     pub fn inc_anti_ampl_limit(&mut self, id: usize, length: usize) -> Result<(), Refusal> {
-        unsafe { ffi::vig_paths_inc_anti_ampl_limit(&mut self.0, id as u64, length as u64) }.result()
+        ffi::vig_paths_inc_anti_ampl_limit(&mut self.0, id as u64, length as u64).result()
     }
 
     /// A datagram was sent on the path: the credit falls by its length.
     pub fn dec_anti_ampl_limit(&mut self, id: usize, length: usize) -> Result<(), Refusal> {
-        unsafe { ffi::vig_paths_dec_anti_ampl_limit(&mut self.0, id as u64, length as u64) }.result()
+        ffi::vig_paths_dec_anti_ampl_limit(&mut self.0, id as u64, length as u64).result()
     }
 
     /// How much of the wish may be sent. To be asked before each send.
     pub fn cmp_anti_ampl_limit(&self, id: usize, wish: usize) -> Result<usize, Refusal> {
-        unsafe { ffi::vig_paths_cmp_anti_ampl_limit(&self.0, id as u64, wish as u64) }.size()
+        ffi::vig_paths_cmp_anti_ampl_limit(&self.0, id as u64, wish as u64).size()
     }
 
     /// A ping is asked for, on the path with the pair or on those in use.
     pub fn mark_ping(&mut self, pair: Option<FourTuple>) -> Result<(), Refusal> {
         const NOWHERE: ffi::Address = ffi::Address { ip: [0; 16], flow: 0, scope: 0, port: 0, kind: 0 };
         let core = pair.map_or(ffi::FourTuple { local: NOWHERE, remote: NOWHERE }, FourTuple::to_core);
-        unsafe { ffi::vig_paths_mark_ping(&mut self.0, pair.is_some(), core) }.result()
+        ffi::vig_paths_mark_ping(&mut self.0, pair.is_some(), core).result()
     }
 
     /// Multipath is on from here.
     pub fn enable_multipath(&mut self) -> Result<(), Refusal> {
-        unsafe { ffi::vig_paths_enable_multipath(&mut self.0) }.result()
+        ffi::vig_paths_enable_multipath(&mut self.0).result()
     }
 
     /// The source sequence that the path uses, or none.
     pub fn set_scid_seq(&mut self, id: usize, seq: Option<u64>) -> Result<(), Refusal> {
         let (has, seq) = split(seq);
-        unsafe { ffi::vig_paths_set_scid_seq(&mut self.0, id as u64, has, seq) }.result()
+        ffi::vig_paths_set_scid_seq(&mut self.0, id as u64, has, seq).result()
     }
 
     /// The destination sequence that the path uses, or none.
     pub fn set_dcid_seq(&mut self, id: usize, seq: Option<u64>) -> Result<(), Refusal> {
         let (has, seq) = split(seq);
-        unsafe { ffi::vig_paths_set_dcid_seq(&mut self.0, id as u64, has, seq) }.result()
+        ffi::vig_paths_set_dcid_seq(&mut self.0, id as u64, has, seq).result()
     }
 
+    /// The active flag, on or off.
     pub fn set_active(&mut self, id: usize, on: bool) -> Result<(), Refusal> {
-        unsafe { ffi::vig_paths_set_active(&mut self.0, id as u64, on) }.result()
+        ffi::vig_paths_set_active(&mut self.0, id as u64, on).result()
     }
 
     /// The peer's address is verified: credit has no more say there.
     pub fn mark_verified(&mut self, id: usize) -> Result<(), Refusal> {
-        unsafe { ffi::vig_paths_mark_verified(&mut self.0, id as u64) }.result()
+        ffi::vig_paths_mark_verified(&mut self.0, id as u64).result()
     }
 }
 
@@ -275,8 +303,8 @@ fn path(p: &ffi::Path) -> Path {
         dcid_seq: p.has_dcid.then_some(p.dcid_seq),
         active: p.active,
         state: state(p.state.into()),
-        recv_chals: p.recv_chals.items[..p.recv_chals.count].iter().map(|data| data.to_be_bytes()).collect(),
-        sent_chals: p.sent_chals.items[..p.sent_chals.count].iter().map(sent).collect(),
+        recv_chals: p.recv_chals.items.iter().take(p.recv_chals.count).map(|data| data.to_be_bytes()).collect(),
+        sent_chals: p.sent_chals.items.iter().take(p.sent_chals.count).map(sent).collect(),
         need_send_challenge: p.need_send_challenge,
         lost_chal: p.lost_chal,
         max_challenge_size: p.max_challenge_size as usize,

@@ -8,8 +8,10 @@ use std::fmt;
 ///
 /// assert_eq!(Refusal::ConnectionIdLimitError.number(), 3);
 /// assert_eq!(Refusal::ConnectionIdLimitError.wire_code(), 0x09);
+/// assert_eq!(Refusal::ConnectionIdLimitError.to_string(), "connection ID limit exceeded");
 /// ```
 #[derive(Clone, Copy, Debug, PartialEq, Eq, Hash)]
+#[non_exhaustive] // a later library may have a ninth
 pub enum Refusal {
     /// An argument or the state is not of its form.
     Malformed = 1,
@@ -42,13 +44,15 @@ impl Refusal {
     ];
 
     /// The refusal's number, 1 to 8.
-    pub fn number(self) -> u8 {
+    #[must_use]
+    pub const fn number(self) -> u8 {
         self as u8
     }
 
-    /// The transport error code (RFC 9000, 20.1) with which a connection is closed for it.
+    /// The transport error code (RFC 9000, 20.1) with which a connection is closed for it. [`Refusal::Done`] closes none, and has 0x00.
+    #[must_use]
     pub fn wire_code(self) -> u64 {
-        unsafe { ffi::vig_wire_code(self.number().into()) }
+        ffi::vig_wire_code(self.number().into())
     }
 }
 

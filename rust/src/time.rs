@@ -6,6 +6,14 @@ use std::time::{Duration, Instant};
 pub struct Moment(pub(crate) ffi::Moment);
 
 /// Microseconds between two moments.
+///
+/// ```
+/// use std::time::Duration;
+/// use vignorasc::Span;
+///
+/// assert_eq!(Span::from(Duration::from_millis(25)), Span::from_micros(25_000));
+/// assert_eq!(Duration::from(Span::from_micros(25_000)), Duration::from_millis(25));
+/// ```
 #[derive(Clone, Copy, PartialEq, Eq)]
 pub struct Span(pub(crate) ffi::Span);
 
@@ -13,31 +21,41 @@ impl Moment {
     /// The latest moment: 2^63 - 1 microseconds.
     pub const MAX: Moment = Moment::from_micros((1 << 63) - 1);
 
+    /// So many microseconds after the start.
+    #[must_use]
     pub const fn from_micros(us: u64) -> Moment {
         Moment(ffi::Moment { us })
     }
 
+    /// Microseconds since the start.
+    #[must_use]
     pub const fn as_micros(self) -> u64 {
         self.0.us
     }
 
     /// Moment + span, or none if that is above [`Moment::MAX`].
+    #[must_use]
     pub fn checked_add(self, span: Span) -> Option<Moment> {
         let us = self.as_micros().checked_add(span.as_micros())?;
         (us <= Moment::MAX.as_micros()).then_some(Moment::from_micros(us))
     }
 
     /// Moment - moment, or 0 where the other is later.
+    #[must_use]
     pub fn saturating_since(self, earlier: Moment) -> Span {
         Span::from_micros(self.as_micros().saturating_sub(earlier.as_micros()))
     }
 }
 
 impl Span {
+    /// So many microseconds.
+    #[must_use]
     pub const fn from_micros(us: u64) -> Span {
         Span(ffi::Span { us })
     }
 
+    /// Its microseconds.
+    #[must_use]
     pub const fn as_micros(self) -> u64 {
         self.0.us
     }
@@ -113,21 +131,26 @@ pub struct Clock {
 impl Clock {
     /// A clock that starts now.
     #[allow(clippy::new_without_default)] // two defaults would differ
+    #[must_use]
     pub fn new() -> Clock {
         Clock { start: Instant::now() }
     }
 
+    /// The moment of this instant.
+    #[must_use]
     pub fn now(&self) -> Moment {
         self.moment(Instant::now())
     }
 
     /// Cut to whole microseconds, so whoever wakes at the instant of a deadline finds it expired. An instant before the start is moment 0.
+    #[must_use]
     pub fn moment(&self, at: Instant) -> Moment {
         let since = Span::from(at.saturating_duration_since(self.start));
         Moment::from_micros(since.as_micros().min(Moment::MAX.as_micros()))
     }
 
-    /// None if the machine's clock can't name it.
+    /// The instant of the moment; none if the machine's clock can't name it.
+    #[must_use]
     pub fn instant(&self, at: Moment) -> Option<Instant> {
         self.start.checked_add(Duration::from_micros(at.as_micros()))
     }

@@ -1,20 +1,30 @@
 use crate::{ffi, Moment, Refusal};
 
-/// The nine timers of a connection.
+/// The nine timers of a connection, as tquic has them.
 #[derive(Clone, Copy, Debug, PartialEq, Eq, Hash)]
 pub enum Timer {
+    /// Packets are lost, or a probe is due.
     LossDetection = 0,
+    /// An acknowledgement is due.
     Ack = 1,
+    /// The pacer allows more.
     Pacer = 2,
+    /// The connection was idle too long.
     Idle = 3,
+    /// The handshake takes too long.
     Handshake = 4,
+    /// The connection is drained.
     Draining = 5,
+    /// Old keys are to be discarded.
     KeyDiscard = 6,
+    /// A ping is due, so that the connection isn't idle.
     KeepAlive = 7,
+    /// A challenge is lost, see [`crate::Paths::min_path_chal_timer`].
     PathChallenge = 8,
 }
 
 impl Timer {
+    /// All of them, by number.
     pub const ALL: [Timer; 9] = [
         Timer::LossDetection,
         Timer::Ack,
@@ -52,33 +62,34 @@ pub struct Timers(ffi::TimerTable);
 
 impl Timers {
     /// No timer is set.
+    #[must_use]
     pub fn fresh() -> Timers {
-        Timers(unsafe { ffi::vig_timers_fresh() })
+        Timers(ffi::vig_timers_fresh())
     }
 
     /// Sets the timer's deadline, whatever it had.
     pub fn set(&mut self, timer: Timer, at: Moment) -> Result<(), Refusal> {
-        unsafe { ffi::vig_timers_set(&mut self.0, timer as u64, at.0) }.result()
+        ffi::vig_timers_set(&mut self.0, timer as u64, at.0).result()
     }
 
     /// The timer isn't set any more.
     pub fn stop(&mut self, timer: Timer) -> Result<(), Refusal> {
-        unsafe { ffi::vig_timers_stop(&mut self.0, timer as u64) }.result()
+        ffi::vig_timers_stop(&mut self.0, timer as u64).result()
     }
 
     /// The timer's deadline, if it is set.
     pub fn get(&self, timer: Timer) -> Result<Option<Moment>, Refusal> {
-        unsafe { ffi::vig_timers_get(&self.0, timer as u64) }.result()
+        ffi::vig_timers_get(&self.0, timer as u64).result()
     }
 
     /// The least deadline that is set.
     pub fn next_timeout(&self) -> Result<Option<Moment>, Refusal> {
-        unsafe { ffi::vig_timers_next_timeout(&self.0) }.result()
+        ffi::vig_timers_next_timeout(&self.0).result()
     }
 
     /// Whether the timer is set, and its deadline is not after `now`.
     pub fn is_expired(&self, timer: Timer, now: Moment) -> Result<bool, Refusal> {
-        unsafe { ffi::vig_timers_is_expired(&self.0, timer as u64, now.0) }.result()
+        ffi::vig_timers_is_expired(&self.0, timer as u64, now.0).result()
     }
 }
 

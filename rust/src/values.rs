@@ -1,4 +1,4 @@
-use crate::ffi;
+use crate::{ffi, Refusal};
 use std::fmt;
 use std::hash::{Hash, Hasher};
 use std::net::{IpAddr, Ipv4Addr, Ipv6Addr, SocketAddr, SocketAddrV6};
@@ -6,12 +6,13 @@ use std::net::{IpAddr, Ipv4Addr, Ipv6Addr, SocketAddr, SocketAddrV6};
 /// A connection ID of 0 to 20 bytes. RULES.md, "Values".
 ///
 /// ```
-/// use vignorasc::ConnectionId;
+/// use vignorasc::{ConnectionId, Refusal};
 ///
 /// assert_eq!(ConnectionId::new(b"cable").as_bytes(), b"cable");
 /// assert!(ConnectionId::empty().is_empty());
-/// // Longer input is cut, as in tquic.
+/// // Longer input is cut, as in tquic, or refused.
 /// assert_eq!(ConnectionId::new(&[7; 30]).len(), 20);
+/// assert_eq!(ConnectionId::try_from(&[7; 30][..]), Err(Refusal::Malformed));
 /// ```
 #[derive(Clone, Copy, PartialEq, Eq)]
 pub struct ConnectionId(pub(crate) ffi::ConnectionId);
@@ -20,7 +21,8 @@ impl ConnectionId {
     /// The most bytes of an ID (RFC 9000, 17.2).
     pub const MAX_LEN: usize = 20;
 
-    /// The first 20 bytes, or all.
+    /// The first 20 bytes, or all. What a peer sent is better taken by `try_from`, which refuses a longer one.
+    #[must_use]
     pub fn new(bytes: &[u8]) -> ConnectionId {
         let len = bytes.len().min(Self::MAX_LEN);
         let mut id = ConnectionId::empty();
@@ -29,20 +31,46 @@ impl ConnectionId {
         id
     }
 
+    /// The ID of length 0.
+    #[must_use]
     pub const fn empty() -> ConnectionId {
         ConnectionId(ffi::ConnectionId { bytes: [0; 20], len: 0 })
     }
 
+    /// As many bytes as it has.
+    #[must_use]
     pub fn as_bytes(&self) -> &[u8] {
         &self.0.bytes[..self.len()]
     }
 
+    /// How many bytes it has.
+    #[must_use]
     pub fn len(&self) -> usize {
         self.0.len.into()
     }
 
+    /// Whether it has none.
+    #[must_use]
     pub fn is_empty(&self) -> bool {
         self.0.len == 0
+    }
+}
+
+impl TryFrom<&[u8]> for ConnectionId {
+    type Error = Refusal;
+
+    /// [`Refusal::Malformed`] above 20 bytes.
+    fn try_from(bytes: &[u8]) -> Result<ConnectionId, Refusal> {
+        if bytes.len() > Self::MAX_LEN {
+            return Err(Refusal::Malformed);
+        }
+        Ok(ConnectionId::new(bytes))
+    }
+}
+
+impl AsRef<[u8]> for ConnectionId {
+    fn as_ref(&self) -> &[u8] {
+        self.as_bytes()
     }
 }
 
@@ -65,7 +93,7 @@ impl fmt::Debug for ConnectionId {
     }
 }
 
-/// A stateless reset token: any 16 bytes.
+/// A stateless reset token: any 16 bytes. `==` takes a time that depends on the bytes: a datagram is not to be compared with a token by it (RFC 9000, 10.3.1).
 #[derive(Clone, Copy, PartialEq, Eq)]
 pub struct ResetToken(pub [u8; 16]);
 
@@ -92,7 +120,9 @@ pub(crate) fn split(number: Option<u64>) -> (bool, u64) {
 /// Where a path begins and where it ends. Flow and scope of an IPv6 address count.
 #[derive(Clone, Copy, Debug, PartialEq, Eq, Hash)]
 pub struct FourTuple {
+    /// This endpoint's.
     pub local: SocketAddr,
+    /// The peer's.
     pub remote: SocketAddr,
 }
 

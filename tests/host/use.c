@@ -1,5 +1,5 @@
-/* A host in C: lends its timers and its IDs to the library, and prints what it is told. The sizes are checked by `layout`, the answers here by hand from
- * docs/RULES.md, "Timers", "Source IDs" and "Destination IDs". */
+/* A host in C: lends its timers, its IDs and its paths to the library, and prints what it is told. The sizes are checked by `layout`, the answers here by
+ * hand from docs/RULES.md. */
 #include <stdio.h>
 #include <stdlib.h>
 #include <string.h>
@@ -90,8 +90,77 @@ static void ids(void) {
     CHECK(vig_ids_scid_count(&zero).refusal == VIG_MALFORMED);
 }
 
+static vig_address v4(uint8_t last, uint16_t port) {
+    vig_address a = {{192, 0, 2, last}, 0, 0, port, 4};
+    return a;
+}
+
+static vig_address v6(uint8_t last, uint16_t port) {
+    vig_address a = {{0xfe, 0x80}, 0x01020304, 7, port, 6};
+    a.ip[15] = last;
+    return a;
+}
+
+static int same_address(vig_address a, vig_address b) {
+    return memcmp(a.ip, b.ip, 16) == 0 && a.flow == b.flow && a.scope == b.scope && a.port == b.port && a.kind == b.kind;
+}
+
+/* Every field of a path is written by a call and read back. */
+static void paths(void) {
+    vig_four_tuple cable = {v4(1, 443), v4(9, 50000)}, wireless = {v6(1, 443), v6(9, 40000)}, nowhere;
+    memset(&nowhere, 0, sizeof nowhere);
+    vig_paths_done_out out = vig_paths_fresh(cable, 1350, 2, 3, true);
+    CHECK(out.answer.refusal == VIG_ACCEPTED);
+    vig_paths t = out.paths;
+    CHECK(t.count == 1 && t.max_paths == 2 && t.anti_ampl_factor == 3 && t.is_server && !t.is_multipath);
+    vig_counted inserted = vig_paths_insert_path(&t, wireless, 1200);
+    CHECK(inserted.refusal == VIG_ACCEPTED && inserted.number == 1 && vig_paths_len(&t).number == 2);
+    CHECK(vig_paths_get_path_id(&t, wireless).present && vig_paths_get_path_id(&t, wireless).number == 1);
+
+    CHECK(vig_paths_set_scid_seq(&t, 1, true, 4).refusal == VIG_ACCEPTED);
+    CHECK(vig_paths_set_dcid_seq(&t, 1, true, 5).refusal == VIG_ACCEPTED);
+    CHECK(vig_paths_inc_anti_ampl_limit(&t, 1, 1200).refusal == VIG_ACCEPTED);
+    vig_counted may = vig_paths_cmp_anti_ampl_limit(&t, 1, 10000);
+    CHECK(may.number == 3600);
+    CHECK(vig_paths_initiate_path_chal(&t, 1).refusal == VIG_ACCEPTED);
+    CHECK(vig_paths_need_send_validation_frames(&t, 1).flag && vig_paths_need_expand_padding_frames(&t, 1).flag);
+    CHECK(vig_paths_on_path_chal_sent(&t, 1, 0x0102030405060708, 1100, at(1000)).refusal == VIG_ACCEPTED);
+    CHECK(vig_paths_dec_anti_ampl_limit(&t, 1, 1100).refusal == VIG_ACCEPTED);
+    CHECK(vig_paths_on_path_chal_received(&t, 1, 0xa1a2a3a4a5a6a7a8).refusal == VIG_ACCEPTED);
+    CHECK(vig_paths_min_path_chal_timer(&t).deadline.at.us == 26000);
+    CHECK(vig_paths_on_path_chal_timeout(&t, at(25999)).refusal == VIG_ACCEPTED);
+
+    vig_path p = vig_paths_get(&t, 1).path;
+    CHECK(same_address(p.pair.local, wireless.local) && same_address(p.pair.remote, wireless.remote));
+    CHECK(same_address(vig_paths_remote_addr(&t, 1).address, wireless.remote) && same_address(vig_paths_local_addr(&t, 0).address, cable.local));
+    CHECK(p.recv_chals.count == 1 && p.recv_chals.items[0] == 0xa1a2a3a4a5a6a7a8);
+    CHECK(p.sent_chals.count == 1 && p.sent_chals.items[0].data == 0x0102030405060708 && p.sent_chals.items[0].size == 1100);
+    CHECK(p.sent_chals.items[0].sent.us == 1000 && p.sent_chals.items[0].deadline.us == 26000);
+    CHECK(p.max_datagram_size == 1200 && p.has_scid && p.scid_seq == 4 && p.has_dcid && p.dcid_seq == 5);
+    CHECK(p.lost_chal == 0 && p.max_challenge_size == 0 && p.anti_ampl_limit == 2500 && p.state == VIG_VALIDATING);
+    CHECK(!p.active && !p.need_send_challenge && !p.verified_peer_address && p.peer_verified_local_address);
+    CHECK(!p.need_send_ping && p.listed);
+
+    CHECK(vig_paths_on_path_chal_timeout(&t, at(26000)).refusal == VIG_ACCEPTED);
+    p = vig_paths_get(&t, 1).path;
+    CHECK(p.lost_chal == 1 && p.need_send_challenge && p.sent_chals.count == 0);
+    CHECK(vig_paths_pop_recv_chal(&t, 1).number == 0xa1a2a3a4a5a6a7a8);
+    CHECK(vig_paths_on_path_chal_sent(&t, 1, 17, 1200, at(26000)).refusal == VIG_ACCEPTED);
+    vig_responded_answer answer = vig_paths_on_path_resp_received(&t, 1, 17, at(35000));
+    CHECK(answer.refusal == VIG_ACCEPTED && answer.yes && answer.spans.count == 1 && answer.spans.items[0].us == 9000);
+    CHECK(vig_paths_set_active(&t, 0, false).refusal == VIG_ACCEPTED && vig_paths_set_active(&t, 1, true).refusal == VIG_ACCEPTED);
+    CHECK(vig_paths_mark_ping(&t, false, nowhere).refusal == VIG_ACCEPTED);
+    vig_paths_found_answer found = vig_paths_get_active(&t);
+    CHECK(found.id == 1 && found.path.active && found.path.need_send_ping && found.path.verified_peer_address);
+    CHECK(found.path.state == VIG_VALIDATED && found.path.max_challenge_size == 1200);
+    CHECK(vig_paths_insert_path(&t, wireless, 1200).refusal == VIG_DONE);
+    printf("paths: %llu bytes may go to a new address that sent 1200; a response after %llu us validates it\n",
+           (unsigned long long)may.number, (unsigned long long)answer.spans.items[0].us);
+}
+
 int main(void) {
     timers();
     ids();
+    paths();
     return 0;
 }

@@ -5,3 +5,6 @@ pub mod CallLaws
 pub mod TableLaws
 pub mod Ways
 pub mod WellLaws
+pub mod Runs
+pub mod RunsProof
+pub mod RunsExample

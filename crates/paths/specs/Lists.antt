@@ -1,4 +1,5 @@
--- Laws of lists that the tables of paths need: a store in a padded array, a reading that changes every element, the first that passes.
+-- Laws of lists that the tables of paths need: a store in a padded array, what stands at a place of it, a reading that changes every element, the first
+-- that passes.
 use Prim.Native.Nat.{ℕ, zero, suc, _-_, _<_}
 use mathlib.Core.Path.{_≡_, refl, sym, ap, _∙_}
 use mathlib.Core.List.{List, [], _∷_, _++_, map}
@@ -12,6 +13,19 @@ use Rattle.lists.specs.Bools.{and-both}
 
 pub set-padded : {A : Type 0} (n : ℕ) (z : A) (l : List A) (i : ℕ) (a : A) → i < length l → set (padded n z l) i a ≡ padded n z (set l i a)
 set-padded n z l i a h = set-append-left l (replicate (n - length l) z) i a h ∙ ap (λ (m : ℕ). set l i a ++ replicate (n - m) z) (sym (length-set l i a))
+
+pub padded-at : {A : Type 0} (n : ℕ) (z : A) (l : List A) (p : ℕ) → getD (padded n z l) p z ≡ getD l p z
+padded-at {A} n z l p = go l p (n - length l)
+  where
+    zeros : (p k : ℕ) → getD (replicate k z) p z ≡ z
+    zeros p zero = refl
+    zeros zero (suc k) = refl
+    zeros (suc p) (suc k) = zeros p k
+
+    go : (l : List A) (p k : ℕ) → getD (l ++ replicate k z) p z ≡ getD l p z
+    go [] p k = zeros p k
+    go (x ∷ l) zero k = refl
+    go (x ∷ l) (suc p) k = go l p k
 
 pub all-at : {A : Type 0} (p : A → Bool) (d : A) (l : List A) (i : ℕ) → all p l ≡ true → i < length l → p (getD l i d) ≡ true
 all-at p d [] i e h = absurd (not-suc-le-zero h)

@@ -9,7 +9,6 @@ pub mod Facts
 pub mod Listing
 pub mod Kept
 pub mod Proof
-pub mod Lift
 pub mod Words
 pub mod Example
 pub mod Trials

@@ -1,5 +1,5 @@
 // The state of the paths, and the test that it is well formed. docs/RULES.md, "Well-formed paths".
-mod path;
+mod form;
 mod state;
 mod test;
 mod zeros;

@@ -3,7 +3,7 @@ ghost use mathlib.Core.Path.{_≡_};
 ghost use Prim.Native.Nat.{_≤_};
 ghost use Rattle.values.specs.Limits.{maxPaths};
 ghost use Rattle.paths_state.specs.Formed.{tableFormed, wellFormed};
-use crate::path;
+use crate::form;
 use crate::state::Paths;
 use crate::zeros;
 use values::limits::MAX_PATHS;
@@ -18,13 +18,13 @@ fn paths_formed(t: Paths) -> bool
     let mut i: usize = 0;
     while i < count {
         let x = t.items[i];
-        let z = path::path_formed(x);
+        let z = form::path_formed(x);
         ok = ok & z;
         let n = i + 1;
         let mut k: usize = n;
         while k < count {
             let y = t.items[k];
-            let w = path::differ(x, y);
+            let w = form::differ(x, y);
             far = far & w;
             k += 1;
         }

@@ -3,8 +3,8 @@ use Prim.Native.Nat.{ℕ}
 use mathlib.Core.Path.{sym, ap}
 use mathlib.Core.Bool.{Bool, cond}
 use borrow.Author.Tests.{le-ltb, lt-ltb}
-use Rattle.paths_state.proofs.path.past_count.Statement.{statement}
-use Rattle.paths_state.proofs.path.past_count.Tie as tie
+use Rattle.paths_state.proofs.form.past_count.Statement.{statement}
+use Rattle.paths_state.proofs.form.past_count.Tie as tie
 
 returns : tie.Need-returns
 returns c = sym (ap (λ (b : Bool). cond {A = ℕ} b 0 (c .before .args .word)) (lt-ltb _ _ (c .if1 .taken)))

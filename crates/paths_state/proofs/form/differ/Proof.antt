@@ -1,7 +1,7 @@
 -- The pairs are compared by `pair_eq`.
 use borrow.Author.Needs.{needs}
-use Rattle.paths_state.proofs.path.differ.Statement.{statement}
-use Rattle.paths_state.proofs.path.differ.Tie as tie
+use Rattle.paths_state.proofs.form.differ.Statement.{statement}
+use Rattle.paths_state.proofs.form.differ.Tie as tie
 
 pair-eq-requires : tie.Need-pair-eq-requires
 pair-eq-requires c κs = search needs

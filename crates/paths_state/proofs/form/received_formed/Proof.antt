@@ -9,8 +9,8 @@ use Rattle.lists.specs.Defs.{all, nought}
 use Rattle.lists.specs.Tests.{past-all}
 use borrow.Author.Needs.{needs}
 use Rattle.paths_state.specs.Laws.{tail-done, tail-more}
-use Rattle.paths_state.proofs.path.received_formed.Statement.{statement}
-use Rattle.paths_state.proofs.path.received_formed.Tie as tie
+use Rattle.paths_state.proofs.form.received_formed.Statement.{statement}
+use Rattle.paths_state.proofs.form.received_formed.Tie as tie
 
 abbrev Inv-loop : tie.InvT-loop
 Inv-loop q count tail₀ i₀ tail i = (i ≤ 8) × (all nought (drop (q .count) (q .items)) ≡ (nought tail && all nought (drop (max (q .count) i) (q .items))))

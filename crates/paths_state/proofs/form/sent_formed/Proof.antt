@@ -12,8 +12,8 @@ use Rattle.values.specs.Time.{momentFormed}
 use borrow.Author.Needs.{needs}
 use Rattle.paths_state.specs.Formed.{noChallenge, timed}
 use Rattle.paths_state.specs.Laws.{all-timed, late-more, tail-done, tail-more, word-none, wordOf}
-use Rattle.paths_state.proofs.path.sent_formed.Statement.{statement}
-use Rattle.paths_state.proofs.path.sent_formed.Tie as tie
+use Rattle.paths_state.proofs.form.sent_formed.Statement.{statement}
+use Rattle.paths_state.proofs.form.sent_formed.Tie as tie
 
 abbrev Inv-loop : tie.InvT-loop
 Inv-loop s count tail₀ late₀ i₀ tail late i = (i ≤ 16) × (all noChallenge (drop (s .count) (s .items)) ≡ (nought tail && all noChallenge (drop (max (s .count) i) (s .items)))) × (all timed (s .items) ≡ (momentFormed late && all timed (drop i (s .items))))

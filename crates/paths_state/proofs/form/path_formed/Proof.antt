@@ -1,7 +1,7 @@
 -- The pair and the lists are tested by their functions, the numbers here.
 use borrow.Author.Needs.{needs}
-use Rattle.paths_state.proofs.path.path_formed.Statement.{statement}
-use Rattle.paths_state.proofs.path.path_formed.Tie as tie
+use Rattle.paths_state.proofs.form.path_formed.Statement.{statement}
+use Rattle.paths_state.proofs.form.path_formed.Tie as tie
 
 pair-formed-requires : tie.Need-pair-formed-requires
 pair-formed-requires c κs = search needs
