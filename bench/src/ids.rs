@@ -5,7 +5,7 @@ use std::mem::size_of;
 
 use super::cid::ConnectionIdMgr as Rust;
 use super::values::{ConnectionId, Counted, Done, Flagged, Numbered, ResetToken, Token};
-use crate::{answers, Answer, Area, Call, ConnectionId as RustId, Given, Row};
+use crate::{answers, Answer, Area, Call, ConnectionId as RustId, Given, Gives, Row};
 
 #[derive(Clone, Copy, PartialEq)]
 #[repr(C)]
@@ -106,8 +106,8 @@ struct Out<A> {
     answer: A,
 }
 
-impl<A> Out<A> {
-    fn into(self, ids: &mut Ids) -> A {
+impl<A> Gives<Ids, A> for Out<A> {
+    fn store(self, ids: &mut Ids) -> A {
         *ids = self.ids;
         self.answer
     }
@@ -492,13 +492,13 @@ struct Rows {
 
 impl Rows {
     /// A row: the arguments that ours and the Rust are given, the form that ours asks of them, and the call in each way.
-    fn add<A: Copy + 'static, B: Copy + 'static, Out: Answer, RustOut>(
+    fn add<A: Copy + 'static, B: Copy + 'static, Out: Answer, Back: Gives<Ids, Out>, RustOut>(
         &mut self,
         name: &'static str,
         (arguments, rusts): (A, B),
         form: impl Fn(&A) -> bool + Copy + 'static,
         lent: impl Fn(&mut Ids, A) -> Out + Copy + 'static,
-        by_value: impl Fn(&mut Ids, A) -> Out + Copy + 'static,
+        by_value: impl Fn(&Ids, A) -> Back + Copy + 'static,
         rust: impl Fn(&mut Rust, B) -> RustOut + Copy + 'static,
     ) {
         let (full, room) = (self.full, name.starts_with("add_"));
@@ -532,8 +532,8 @@ fn rows(full: bool) -> Vec<Row> {
         name: "fresh",
         test: |_: &Ids, (dlimit, cid, token): &(u64, Cid, Token)| (1..=16).contains(dlimit) && cid.formed() && token.formed(),
         tuned: |_: &Ids, (dlimit, cid, token): &(u64, Cid, Token)| (1..=16).contains(dlimit) & cid.formed() & token.formed(),
-        lent: |s: &mut Ids, (dlimit, cid, token)| unsafe { vig_ids_fresh(dlimit, cid, 0, token) }.into(s),
-        by_value: |s: &mut Ids, (dlimit, cid, token)| unsafe { val_ids_fresh(dlimit, cid, 0, token) }.into(s),
+        lent: |s: &mut Ids, (dlimit, cid, token)| unsafe { vig_ids_fresh(dlimit, cid, 0, token) }.store(s),
+        by_value: |_: &Ids, (dlimit, cid, token)| unsafe { val_ids_fresh(dlimit, cid, 0, token) },
         // What stood there before is not dropped.
         rust: |m: &mut Rust, (dlimit, cid, token): (usize, RustId, u128)| unsafe {
             std::ptr::write(m, Rust::new(dlimit, &cid, 0, Some(token)))
@@ -551,7 +551,7 @@ fn rows(full: bool) -> Vec<Row> {
         ((cid, key), (rust_cid, rust_key)),
         |(cid, token)| cid.formed() && token.formed(),
         |s, (cid, token)| unsafe { vig_ids_set_initial_dcid(s, cid, token, true, 0) },
-        |s, (cid, token)| unsafe { val_ids_set_initial_dcid(*s, cid, token, true, 0) }.into(s),
+        |s, (cid, token)| unsafe { val_ids_set_initial_dcid(*s, cid, token, true, 0) },
         |m, (cid, token)| m.set_initial_dcid(cid, Some(token), Some(0)),
     );
     r.add(
@@ -559,7 +559,7 @@ fn rows(full: bool) -> Vec<Row> {
         both(limit),
         any,
         |s, n| unsafe { vig_ids_set_scid_limit(s, n) },
-        |s, n| unsafe { val_ids_set_scid_limit(*s, n) }.into(s),
+        |s, n| unsafe { val_ids_set_scid_limit(*s, n) },
         |m, n| m.set_scid_limit(n),
     );
     r.add(
@@ -591,7 +591,7 @@ fn rows(full: bool) -> Vec<Row> {
         both(source),
         any,
         |s, seq| unsafe { vig_ids_mark_scid_used(s, seq, 1) },
-        |s, seq| unsafe { val_ids_mark_scid_used(*s, seq, 1) }.into(s),
+        |s, seq| unsafe { val_ids_mark_scid_used(*s, seq, 1) },
         |m, seq| m.mark_scid_used(seq, 1),
     );
     r.add(
@@ -599,7 +599,7 @@ fn rows(full: bool) -> Vec<Row> {
         both(destination),
         any,
         |s, seq| unsafe { vig_ids_mark_dcid_used(s, seq, 1) },
-        |s, seq| unsafe { val_ids_mark_dcid_used(*s, seq, 1) }.into(s),
+        |s, seq| unsafe { val_ids_mark_dcid_used(*s, seq, 1) },
         |m, seq| m.mark_dcid_used(seq, 1),
     );
     r.add(
@@ -631,7 +631,7 @@ fn rows(full: bool) -> Vec<Row> {
         ((new.0 .0, new.1 .0), (new.0 .1, new.1 .1)),
         |(cid, token)| cid.formed() && token.formed(),
         |s, (cid, token)| unsafe { vig_ids_add_scid(s, cid, token, true, false, 0, true) },
-        |s, (cid, token)| unsafe { val_ids_add_scid(*s, cid, token, true, false, 0, true) }.into(s),
+        |s, (cid, token)| unsafe { val_ids_add_scid(*s, cid, token, true, false, 0, true) },
         |m, (cid, token)| m.add_scid(cid, Some(token), true, None, true),
     );
     let seq = room.destination + 1;
@@ -643,7 +643,7 @@ fn rows(full: bool) -> Vec<Row> {
             ((cid, seq, key, rpt), (rust_cid, seq, rust_key, rpt)),
             |(cid, ..)| cid.formed(),
             |s, (cid, seq, token, rpt)| unsafe { vig_ids_add_dcid(s, cid, seq, token.given(), rpt) },
-            |s, (cid, seq, token, rpt)| unsafe { val_ids_add_dcid(*s, cid, seq, token.given(), rpt) }.into(s),
+            |s, (cid, seq, token, rpt)| unsafe { val_ids_add_dcid(*s, cid, seq, token.given(), rpt) },
             |m, (cid, seq, token, rpt)| m.add_dcid(cid, seq, token, rpt),
         );
     }
@@ -653,7 +653,7 @@ fn rows(full: bool) -> Vec<Row> {
         ((0, packet), (0, rust_packet)),
         |(_, packet)| packet.formed(),
         |s, (seq, packet)| unsafe { vig_ids_retire_scid(s, seq, packet) },
-        |s, (seq, packet)| unsafe { val_ids_retire_scid(*s, seq, packet) }.into(s),
+        |s, (seq, packet)| unsafe { val_ids_retire_scid(*s, seq, packet) },
         |m, (seq, packet)| m.retire_scid(seq, &packet),
     );
     for (name, on) in [("mark_scid_to_advertise, on", true), ("mark_scid_to_advertise, off", false)] {
@@ -662,7 +662,7 @@ fn rows(full: bool) -> Vec<Row> {
             ((source, on), (source, on)),
             any,
             |s, (seq, on)| unsafe { vig_ids_mark_scid_to_advertise(s, seq, on) },
-            |s, (seq, on)| unsafe { val_ids_mark_scid_to_advertise(*s, seq, on) }.into(s),
+            |s, (seq, on)| unsafe { val_ids_mark_scid_to_advertise(*s, seq, on) },
             |m, (seq, on)| m.mark_scid_to_advertise(seq, on),
         );
     }
@@ -672,7 +672,7 @@ fn rows(full: bool) -> Vec<Row> {
             ((RETIRED - 1, on), (RETIRED - 1, on)),
             any,
             |s, (seq, on)| unsafe { vig_ids_mark_dcid_to_retire(s, seq, on) },
-            |s, (seq, on)| unsafe { val_ids_mark_dcid_to_retire(*s, seq, on) }.into(s),
+            |s, (seq, on)| unsafe { val_ids_mark_dcid_to_retire(*s, seq, on) },
             |m, (seq, on)| m.mark_dcid_to_retire(seq, on),
         );
     }

@@ -68,7 +68,7 @@ pub struct Call<Test, Tuned, Lent, ByValue, Rust> {
     /// The test that ours makes of its state and its arguments, in Rust over the same state: plainly, and tuned.
     pub test: Test,
     pub tuned: Tuned,
-    /// Ours, through the C ABI: on the state in its place; and by value, where a state that comes back is stored.
+    /// Ours, through the C ABI: on the state in its place; and by value, where what comes back stays where the callee wrote it.
     pub lent: Lent,
     pub by_value: ByValue,
     pub rust: Rust,
@@ -76,7 +76,7 @@ pub struct Call<Test, Tuned, Lent, ByValue, Rust> {
 
 impl<Test, Tuned, Lent, ByValue, Rust> Call<Test, Tuned, Lent, ByValue, Rust> {
     /// The row of the call on the given state; `rust` prepares the Rust's, and `seen` is what ours would be in its place.
-    pub fn row<S, A, R, B, Out, RustOut>(
+    pub fn row<S, A, R, B, Out, Back, RustOut>(
         self,
         given: Given<S, A>,
         rust: impl Fn() -> Given<R, B> + Copy + 'static,
@@ -88,16 +88,17 @@ impl<Test, Tuned, Lent, ByValue, Rust> Call<Test, Tuned, Lent, ByValue, Rust> {
         R: 'static,
         B: Copy,
         Out: Answer,
+        Back: Gives<S, Out>,
         Test: Fn(&S, &A) -> bool + Copy + 'static,
         Tuned: Fn(&S, &A) -> bool + Copy + 'static,
         Lent: Fn(&mut S, A) -> Out + Copy + 'static,
-        ByValue: Fn(&mut S, A) -> Out + Copy + 'static,
+        ByValue: Fn(&S, A) -> Back + Copy + 'static,
         Rust: Fn(&mut R, B) -> RustOut + Copy + 'static,
     {
         let Call { name, test, tuned, lent, by_value, rust: rusts } = self;
         let ours = move || given;
         let lent = move |o: &mut Given<S, A>| lent(&mut o.state, o.arguments);
-        let by_value = move |o: &mut Given<S, A>| by_value(&mut o.state, o.arguments);
+        let by_value = move |o: &mut Given<S, A>| by_value(&o.state, o.arguments);
         let rusts = move |r: &mut Given<R, B>| rusts(&mut r.state, r.arguments);
         let test = move |o: &Given<S, A>| test(&o.state, &o.arguments);
         let tuned = move |o: &Given<S, A>| tuned(&o.state, &o.arguments);
@@ -105,7 +106,7 @@ impl<Test, Tuned, Lent, ByValue, Rust> Call<Test, Tuned, Lent, ByValue, Rust> {
             call: name,
             sides: vec![
                 ("lent", Box::new(move |n| accepted(&times(n, ours, lent)))),
-                ("by value", Box::new(move |n| accepted(&times(n, ours, by_value)))),
+                ("by value", Box::new(move |n| accepted(&times(n, ours, by_value).store(&mut ours().state)))),
                 ("Rust", Box::new(move |n| _ = times(n, rust, rusts))),
                 ("Rust + test", Box::new(move |n| tested(n, ours, test, rust, rusts))),
                 ("Rust + tuned", Box::new(move |n| tested(n, ours, tuned, rust, rusts))),
@@ -114,7 +115,7 @@ impl<Test, Tuned, Lent, ByValue, Rust> Call<Test, Tuned, Lent, ByValue, Rust> {
                 let (mut a, mut b, mut r) = (ours(), ours(), rust());
                 assert!(seen(&r.state) == a.state, "{name}: the Rust's state differs before the call");
                 assert!(test(&a) && tuned(&a), "{name}: the test fails");
-                let (x, y) = (lent(&mut a), by_value(&mut b));
+                let (x, y) = (lent(&mut a), by_value(&mut b).store(&mut b.state));
                 _ = rusts(&mut r);
                 accepted(&x);
                 assert!(x == y && a.state == b.state, "{name}: lent and by value differ");
@@ -131,6 +132,18 @@ impl<Test, Tuned, Lent, ByValue, Rust> Call<Test, Tuned, Lent, ByValue, Rust> {
 /// What ours answers.
 pub trait Answer: PartialEq {
     fn refusal(&self) -> u8;
+}
+
+/// What a call by value gives: an answer, or a state and an answer.
+pub trait Gives<S, Out> {
+    /// Stores the state, if there is one, and gives the answer.
+    fn store(self, state: &mut S) -> Out;
+}
+
+impl<S, Out: Answer> Gives<S, Out> for Out {
+    fn store(self, _: &mut S) -> Out {
+        self
+    }
 }
 
 /// The most calls of one run.

@@ -6,7 +6,7 @@ use std::net::{Ipv4Addr, SocketAddr, SocketAddrV4};
 
 use super::path::{Path as RustPath, PathMap as Rust};
 use super::values::{Counted, Done, Flagged, Moment, Numbered, Timed};
-use crate::{answers, Answer, Area, Call, FourTuple, Given, RecoveryConfig, Row};
+use crate::{answers, Answer, Area, Call, FourTuple, Given, Gives, RecoveryConfig, Row};
 
 #[derive(Clone, Copy, PartialEq)]
 #[repr(C)]
@@ -128,8 +128,8 @@ struct Out<A> {
     answer: A,
 }
 
-impl<A> Out<A> {
-    fn into(self, paths: &mut Paths) -> A {
+impl<A> Gives<Paths, A> for Out<A> {
+    fn store(self, paths: &mut Paths) -> A {
         *paths = self.paths;
         self.answer
     }
@@ -512,13 +512,13 @@ struct Rows {
 
 impl Rows {
     /// A row: the arguments that ours and the Rust are given, the form that ours asks of them, and the call in each way.
-    fn add<A: Copy + 'static, B: Copy + 'static, Out: Answer, RustOut>(
+    fn add<A: Copy + 'static, B: Copy + 'static, Out: Answer, Back: Gives<Paths, Out>, RustOut>(
         &mut self,
         name: &'static str,
         (arguments, rusts): (A, B),
         form: impl Fn(&A) -> bool + Copy + 'static,
         lent: impl Fn(&mut Paths, A) -> Out + Copy + 'static,
-        by_value: impl Fn(&mut Paths, A) -> Out + Copy + 'static,
+        by_value: impl Fn(&Paths, A) -> Back + Copy + 'static,
         rust: impl Fn(&mut Rust, B) -> RustOut + Copy + 'static,
     ) {
         let count = self.count;
@@ -552,8 +552,8 @@ fn rows(count: u64) -> Vec<Row> {
         name: "fresh",
         test: |_: &Paths, (pair, limit): &(Pair, u64)| (1..=8).contains(limit) && pair.formed(),
         tuned: |_: &Paths, (pair, limit): &(Pair, u64)| (1..=8).contains(limit) & pair.formed(),
-        lent: |s: &mut Paths, (pair, limit)| unsafe { vig_paths_fresh(pair, SIZE, limit, FACTOR, true) }.into(s),
-        by_value: |s: &mut Paths, (pair, limit)| unsafe { val_paths_fresh(pair, SIZE, limit, FACTOR, true) }.into(s),
+        lent: |s: &mut Paths, (pair, limit)| unsafe { vig_paths_fresh(pair, SIZE, limit, FACTOR, true) }.store(s),
+        by_value: |_: &Paths, (pair, limit)| unsafe { val_paths_fresh(pair, SIZE, limit, FACTOR, true) },
         // What stood there before is not dropped.
         rust: |m: &mut Rust, (pair, limit): ((SocketAddr, SocketAddr), usize)| unsafe {
             std::ptr::write(m, Rust::new(path(pair, true, SIZE), limit, FACTOR as usize, true))
@@ -570,7 +570,7 @@ fn rows(count: u64) -> Vec<Row> {
         ((new, SIZE), (new.rust(), SIZE)),
         |(pair, _)| pair.formed(),
         |s, (pair, size)| unsafe { vig_paths_insert_path(s, pair, size) },
-        |s, (pair, size)| unsafe { val_paths_insert_path(*s, pair, size) }.into(s),
+        |s, (pair, size)| unsafe { val_paths_insert_path(*s, pair, size) },
         |m, (pair, size)| m.insert_path(path(pair, false, size)),
     );
     r.add("len", both(0), any, |s, _| unsafe { vig_paths_len(s) }, |s, _| unsafe { val_paths_len(*s) }, |m, _| m.len());
@@ -667,7 +667,7 @@ fn rows(count: u64) -> Vec<Row> {
         both(1),
         any,
         |s, id| unsafe { vig_paths_initiate_path_chal(s, id) },
-        |s, id| unsafe { val_paths_initiate_path_chal(*s, id) }.into(s),
+        |s, id| unsafe { val_paths_initiate_path_chal(*s, id) },
         |m, id| m.get_mut(id as usize).map(|path| path.initiate_path_chal()),
     );
     r.add(
@@ -675,7 +675,7 @@ fn rows(count: u64) -> Vec<Row> {
         both(1),
         any,
         |s, id| unsafe { vig_paths_pop_recv_chal(s, id) },
-        |s, id| unsafe { val_paths_pop_recv_chal(*s, id) }.into(s),
+        |s, id| unsafe { val_paths_pop_recv_chal(*s, id) },
         |m, id| m.get_mut(id as usize).map(|path| path.pop_recv_chal()),
     );
     r.add(
@@ -683,7 +683,7 @@ fn rows(count: u64) -> Vec<Row> {
         ((1, 9), (1, bytes(9))),
         any,
         |s, (id, data)| unsafe { vig_paths_on_path_chal_received(s, id, data) },
-        |s, (id, data)| unsafe { val_paths_on_path_chal_received(*s, id, data) }.into(s),
+        |s, (id, data)| unsafe { val_paths_on_path_chal_received(*s, id, data) },
         |m, (id, data)| m.on_path_chal_received(id, data),
     );
     r.add(
@@ -691,7 +691,7 @@ fn rows(count: u64) -> Vec<Row> {
         ((1, 9, 1200, at(10)), (1, bytes(9), 1200, crate::instant(10))),
         |(.., sent)| sent.formed(),
         |s, (id, data, size, sent)| unsafe { vig_paths_on_path_chal_sent(s, id, data, size, sent) },
-        |s, (id, data, size, sent)| unsafe { val_paths_on_path_chal_sent(*s, id, data, size, sent) }.into(s),
+        |s, (id, data, size, sent)| unsafe { val_paths_on_path_chal_sent(*s, id, data, size, sent) },
         |m, (id, data, size, sent)| m.on_path_chal_sent(id, data, size, sent),
     );
     r.add(
@@ -699,7 +699,7 @@ fn rows(count: u64) -> Vec<Row> {
         ((1, SENT, at(0)), (1, bytes(SENT))),
         |(.., now)| now.formed(),
         |s, (id, data, now)| unsafe { vig_paths_on_path_resp_received(s, id, data, now) },
-        |s, (id, data, now)| unsafe { val_paths_on_path_resp_received(*s, id, data, now) }.into(s),
+        |s, (id, data, now)| unsafe { val_paths_on_path_resp_received(*s, id, data, now) },
         |m, (id, data)| m.on_path_resp_received(id, data),
     );
     r.add(
@@ -707,7 +707,7 @@ fn rows(count: u64) -> Vec<Row> {
         (at(DUE), crate::instant(DUE)),
         |now| now.formed(),
         |s, now| unsafe { vig_paths_on_path_chal_timeout(s, now) },
-        |s, now| unsafe { val_paths_on_path_chal_timeout(*s, now) }.into(s),
+        |s, now| unsafe { val_paths_on_path_chal_timeout(*s, now) },
         |m, now| m.on_path_chal_timeout(now),
     );
     r.add(
@@ -723,7 +723,7 @@ fn rows(count: u64) -> Vec<Row> {
         both(1),
         any,
         |s, id| unsafe { vig_paths_inc_anti_ampl_limit(s, id, 100) },
-        |s, id| unsafe { val_paths_inc_anti_ampl_limit(*s, id, 100) }.into(s),
+        |s, id| unsafe { val_paths_inc_anti_ampl_limit(*s, id, 100) },
         |m, id| m.inc_anti_ampl_limit(id as usize, 100),
     );
     r.add(
@@ -731,7 +731,7 @@ fn rows(count: u64) -> Vec<Row> {
         both(1),
         any,
         |s, id| unsafe { vig_paths_dec_anti_ampl_limit(s, id, 100) },
-        |s, id| unsafe { val_paths_dec_anti_ampl_limit(*s, id, 100) }.into(s),
+        |s, id| unsafe { val_paths_dec_anti_ampl_limit(*s, id, 100) },
         |m, id| m.dec_anti_ampl_limit(id as usize, 100),
     );
     r.add(
@@ -747,7 +747,7 @@ fn rows(count: u64) -> Vec<Row> {
         ((true, last), Some(last.rust())),
         |(has, pair)| if *has { pair.formed() } else { *pair == NOWHERE },
         |s, (has, pair)| unsafe { vig_paths_mark_ping(s, has, pair) },
-        |s, (has, pair)| unsafe { val_paths_mark_ping(*s, has, pair) }.into(s),
+        |s, (has, pair)| unsafe { val_paths_mark_ping(*s, has, pair) },
         |m, pair| m.mark_ping(pair.map(|(local, remote)| FourTuple { local, remote })),
     );
     r.add(
@@ -755,7 +755,7 @@ fn rows(count: u64) -> Vec<Row> {
         both(0),
         any,
         |s, _| unsafe { vig_paths_enable_multipath(s) },
-        |s, _| unsafe { val_paths_enable_multipath(*s) }.into(s),
+        |s, _| unsafe { val_paths_enable_multipath(*s) },
         |m, _| m.enable_multipath(),
     );
     r.add(
@@ -763,7 +763,7 @@ fn rows(count: u64) -> Vec<Row> {
         ((1, true, 7), (1, Some(7))),
         sequence,
         |s, (id, has, seq)| unsafe { vig_paths_set_scid_seq(s, id, has, seq) },
-        |s, (id, has, seq)| unsafe { val_paths_set_scid_seq(*s, id, has, seq) }.into(s),
+        |s, (id, has, seq)| unsafe { val_paths_set_scid_seq(*s, id, has, seq) },
         |m, (id, seq)| m.get_mut(id).map(|path| path.scid_seq = seq),
     );
     r.add(
@@ -771,7 +771,7 @@ fn rows(count: u64) -> Vec<Row> {
         ((1, true, 7), (1, Some(7))),
         sequence,
         |s, (id, has, seq)| unsafe { vig_paths_set_dcid_seq(s, id, has, seq) },
-        |s, (id, has, seq)| unsafe { val_paths_set_dcid_seq(*s, id, has, seq) }.into(s),
+        |s, (id, has, seq)| unsafe { val_paths_set_dcid_seq(*s, id, has, seq) },
         |m, (id, seq)| m.get_mut(id).map(|path| path.dcid_seq = seq),
     );
     r.add(
@@ -779,7 +779,7 @@ fn rows(count: u64) -> Vec<Row> {
         ((1, true), (1, true)),
         any,
         |s, (id, on)| unsafe { vig_paths_set_active(s, id, on) },
-        |s, (id, on)| unsafe { val_paths_set_active(*s, id, on) }.into(s),
+        |s, (id, on)| unsafe { val_paths_set_active(*s, id, on) },
         |m, (id, on)| m.get_mut(id).map(|path| path.set_active(on)),
     );
     r.add(
@@ -787,7 +787,7 @@ fn rows(count: u64) -> Vec<Row> {
         both(1),
         any,
         |s, id| unsafe { vig_paths_mark_verified(s, id) },
-        |s, id| unsafe { val_paths_mark_verified(*s, id) }.into(s),
+        |s, id| unsafe { val_paths_mark_verified(*s, id) },
         |m, id| m.get_mut(id as usize).map(|path| path.verified_peer_address = true),
     );
     r.rows

@@ -4,7 +4,7 @@ use std::mem::size_of;
 
 use super::timer::{Timer, TimerTable as Rust};
 use super::values::{Deadline, Done, Flagged, Moment, Timed};
-use crate::{instant, Answer, Area, Call, Given, Instant, Row};
+use crate::{instant, Answer, Area, Call, Given, Gives, Instant, Row};
 
 #[derive(Clone, Copy, PartialEq)]
 #[repr(C)]
@@ -47,10 +47,17 @@ impl TimerTable {
     }
 }
 
-impl TimersOut {
-    fn into(self, table: &mut TimerTable) -> Done {
+impl Gives<TimerTable, Done> for TimersOut {
+    fn store(self, table: &mut TimerTable) -> Done {
         *table = self.timers;
         self.answer
+    }
+}
+
+/// A fresh table.
+impl Gives<TimerTable, ()> for TimerTable {
+    fn store(self, table: &mut TimerTable) {
+        *table = self;
     }
 }
 
@@ -91,11 +98,11 @@ pub fn area() -> Area {
 }
 
 /// The row of a call that is given a timer and a moment, of which `form` tests those that ours is given.
-fn row<Out: Answer, RustOut>(
+fn row<Out: Answer, Back: Gives<TimerTable, Out>, RustOut>(
     name: &'static str,
     form: impl Fn(u64, Moment) -> bool + Copy + 'static,
     lent: impl Fn(&mut TimerTable, (u64, Moment)) -> Out + Copy + 'static,
-    by_value: impl Fn(&mut TimerTable, (u64, Moment)) -> Out + Copy + 'static,
+    by_value: impl Fn(&TimerTable, (u64, Moment)) -> Back + Copy + 'static,
     rust: impl Fn(&mut Rust, (Timer, Instant)) -> RustOut + Copy + 'static,
 ) -> Row {
     let test = move |t: &TimerTable, &(timer, at): &(u64, Moment)| form(timer, at) && t.formed();
@@ -113,7 +120,7 @@ fn rows() -> Vec<Row> {
         test: |_: &TimerTable, _: &()| true,
         tuned: |_: &TimerTable, _: &()| true,
         lent: |t: &mut TimerTable, _| *t = unsafe { vig_timers_fresh() },
-        by_value: |t: &mut TimerTable, _| *t = unsafe { val_timers_fresh() },
+        by_value: |_: &TimerTable, _| unsafe { val_timers_fresh() },
         rust: |t: &mut Rust, _: ()| *t = Rust::default(),
     };
     vec![
@@ -122,14 +129,14 @@ fn rows() -> Vec<Row> {
             "set",
             |timer, at| timer < 9 && at.formed(),
             |t, (timer, at)| unsafe { vig_timers_set(t, timer, at) },
-            |t, (timer, at)| unsafe { val_timers_set(*t, timer, at) }.into(t),
+            |t, (timer, at)| unsafe { val_timers_set(*t, timer, at) },
             |t, (timer, at)| t.set(timer, at),
         ),
         row(
             "stop",
             |timer, _| timer < 9,
             |t, (timer, _)| unsafe { vig_timers_stop(t, timer) },
-            |t, (timer, _)| unsafe { val_timers_stop(*t, timer) }.into(t),
+            |t, (timer, _)| unsafe { val_timers_stop(*t, timer) },
             |t, (timer, _)| t.stop(timer),
         ),
         row(

@@ -145,7 +145,7 @@ pub fn area() -> Area {
         test: |_: &(), _: &()| true,
         tuned: |_: &(), _: &()| true,
         lent: |_: &mut (), _| (),
-        by_value: |_: &mut (), _| (),
+        by_value: |_: &(), _| (),
         rust: |_: &mut (), _: ()| (),
     };
     let wire_code = Call {
@@ -153,7 +153,7 @@ pub fn area() -> Area {
         test: |_: &(), _: &u64| true,
         tuned: |_: &(), _: &u64| true,
         lent: |_: &mut (), number| unsafe { vig_wire_code(number) },
-        by_value: |_: &mut (), number| unsafe { val_wire_code(number) },
+        by_value: |_: &(), number| unsafe { val_wire_code(number) },
         rust: |errors: &mut [Error; 1], _: ()| errors[0].to_wire(),
     };
     let rows = vec![

@@ -13,6 +13,12 @@ pub struct Spans {
     pub count: usize,
 }
 
+// What a response finds: the spans of its matches, and the size of the last one.
+pub struct Matches {
+    pub spans: Spans,
+    pub size: u64,
+}
+
 pub fn no_spans() -> Spans
     ensures { λ r. ⌜ r ≡ spansOf [] ⌝ }
 {
@@ -40,30 +46,13 @@ pub fn sent_unmatched(s: Sent, data: u64) -> Sent
     out
 }
 
-// The size of the last one with the data; 0 where none has it.
-pub fn sent_last_size(s: Sent, data: u64) -> u64
+// The span from sending to now of each one with the data, in order, and the size of the last one with it: 0 where none has it.
+pub fn sent_matches(s: Sent, data: u64, now: Moment) -> Matches
     requires { ⌜ SentWell s ⌝ }
-    ensures { λ r. ⌜ r ≡ lastSize 0 (matching «data» (standing s)) ⌝ }
-{
-    let mut size: u64 = 0;
-    let count = s.count;
-    let mut i: usize = 0;
-    while i < count {
-        let x = s.items[i];
-        if x.data == data {
-            size = x.size;
-        }
-        i += 1;
-    }
-    size
-}
-
-// The span from sending to now of each one with the data, in order.
-pub fn sent_spans(s: Sent, data: u64, now: Moment) -> Spans
-    requires { ⌜ SentWell s ⌝ }
-    ensures { λ r. ⌜ r ≡ spansOf (spans «data» (now .us) (standing s)) ⌝ }
+    ensures { λ r. ⌜ r ≡ record { spans = spansOf (spans «data» (now .us) (standing s)); size = lastSize 0 (matching «data» (standing s)) } ⌝ }
 {
     let mut out = no_spans();
+    let mut size: u64 = 0;
     let count = s.count;
     let mut i: usize = 0;
     while i < count {
@@ -73,8 +62,12 @@ pub fn sent_spans(s: Sent, data: u64, now: Moment) -> Spans
             let n = out.count;
             out.items[n] = values::moment_minus(now, start);
             out.count = n + 1;
+            size = x.size;
         }
         i += 1;
     }
-    out
+    Matches {
+        spans: out,
+        size: size,
+    }
 }

@@ -1,5 +1,6 @@
 // The challenges that were sent on a path and stand without a response: 16 places, of which the first `count` hold them in the order of sending.
 ghost use mathlib.Core.Path.{_≡_};
+ghost use mathlib.Core.Bool.{cond};
 ghost use mathlib.Core.List.{[], _∷_, _++_};
 ghost use Prim.Native.Nat.{_<_};
 ghost use lib.ListN.{drop};
@@ -74,7 +75,7 @@ pub fn sent_front(s: Sent) -> Deadline
 }
 
 // The first is taken out: the later ones move down, and the last place is cleared.
-pub fn sent_drop_front(s: Sent) -> Sent
+fn sent_drop_front(s: Sent) -> Sent
     requires { ⌜ SentWell s ⌝ }
     ensures { λ r. ⌜ r ≡ sentOf (drop 1 (standing s)) ⌝ }
 {
@@ -93,4 +94,12 @@ pub fn sent_drop_front(s: Sent) -> Sent
     u.items[last] = no_challenge();
     u.count = last;
     u
+}
+
+// What stands after the first is lost: the others, or with `all` none.
+pub fn sent_rest(s: Sent, all: bool) -> Sent
+    requires { ⌜ SentWell s ⌝ }
+    ensures { λ r. ⌜ r ≡ sentOf (cond all [] (drop 1 (standing s))) ⌝ }
+{
+    if all { no_sent() } else { sent_drop_front(s) }
 }

@@ -2,7 +2,8 @@
 use Prim.Native.Nat.{ℕ, _-_, max}
 use mathlib.Core.Path.{_≡_, refl, sym, ap, ap₂, _∙_}
 use mathlib.Core.List.{List, [], _∷_, _++_, map}
-use mathlib.Core.Bool.{Bool, true, false, cond, not}
+use mathlib.Core.Bool.{Bool, true, false, cond, not, _&&_, _||_}
+use native.Mathlib.Omega.{arith}
 use lib.Dec.{eqb, leb}
 use lib.ListN.{drop}
 use Rattle.values.specs.Limits.{minClientInitialLen}
@@ -12,11 +13,13 @@ use Rattle.challenges.specs.Challenges as C
 use Rattle.challenges.specs.Laws.{keep-view, picked-view}
 use Rattle.challenges.specs.declared.received.Received.{Received}
 use Rattle.challenges.specs.declared.sent.Sent.{Sent}
+use Rattle.challenges.specs.declared.matches.Matches.{Matches}
+use Rattle.challenges.specs.declared.matches.Spans.{Spans}
 use Rattle.challenges.specs.declared.sent.Challenge as CS
 use Rattle.paths_state.specs.Formed.{pathFormed}
 use Rattle.paths_state.specs.Laws.{path-facts}
 use Rattle.paths_state.specs.declared.state.Path as S
-use Rattle.paths_rules.specs.Path.{Path, Challenge, pop, receive, roomed, due, lastSize, matching, unmatched, carries, spans, largestAfter, matched, respond, reached, promote, withAsk, withSent, withActive, rankValidated}
+use Rattle.paths_rules.specs.Path.{Path, Challenge, pop, receive, roomed, due, lastSize, matching, unmatched, carries, spans, largestAfter, validates, matched, respond, reached, promote, withAsk, withSent, withActive, rankValidated}
 use Rattle.path.specs.Reading.{chalView, chalOf, pathView, pathOf}
 use Rattle.path.specs.ReadingLaws.{chals-is}
 use Rattle.path.specs.FieldLaws.{back}
@@ -58,37 +61,64 @@ module _ (x : S.Path) (w : pathFormed x ≡ true) where
 
   -- ---- a response
 
-  module _ (d : ℕ) where
-    pub largest-is : (n : ℕ) → n ≡ C.lastSize 0 (C.matching d (standing (x .«sent_chals»))) → max (x .«max_challenge_size») n ≡ largestAfter d (pathView x)
-    largest-is n e =
-        ap (max (x .«max_challenge_size»))
-        (e ∙ sym (last-view 0 (C.matching d (standing (x .«sent_chals»)))) ∙ sym (ap (lastSize 0) (match-view d (standing (x .«sent_chals»)))))
+  module _ (d : ℕ) (multi : Bool) where
+    abbrev respondAt : Bool → Bool → S.Path
+    respondAt a b =
+        pathOf
+        (cond a (pathView x)
+        (cond b (withSent [] (withActive multi (promote rankValidated (reached d (pathView x))))) (withAsk true (reached d (pathView x)))))
 
-    pub matched-none : (now : ℕ) → eqb (x .state) 4 ≡ true → spansOf [] ≡ spansOf (matched d now (pathView x))
-    matched-none now t = sym (ap (λ (b : Bool). spansOf (cond b [] (spans d now (pathView x)))) t)
+    respond-none : eqb (x .state) 4 ≡ true → x ≡ pathOf (respond d multi (pathView x))
+    respond-none t = back x w ∙ sym (ap (λ (a : Bool). respondAt a (leb minClientInitialLen (largestAfter d (pathView x)))) t)
 
-    pub matched-is : (now : ℕ) → eqb (x .state) 4 ≡ false → spansOf (C.spans d now (standing (x .«sent_chals»))) ≡ spansOf (matched d now (pathView x))
-    matched-is now t =
-        ap spansOf (sym (picked-view chalView (carries d) (C.carries d) (λ c. refl) (λ (c : Challenge). now - c .sent) (C.spanTo now) (λ c. refl) (standing (x .«sent_chals»))))
-        ∙ sym (ap (λ (b : Bool). spansOf (cond b [] (spans d now (pathView x)))) t)
+    module _ (t : eqb (x .state) 4 ≡ false) (n r : ℕ) (e : n ≡ largestAfter d (pathView x)) (f : r ≡ max (x .state) 3) where
+      pub respond-big : (s : Sent) (k : ℕ) → s ≡ sentOf [] → k ≡ max r 4 → leb minClientInitialLen n ≡ true → putReached s n multi k x ≡ pathOf (respond d multi (pathView x))
+      respond-big s k g h b =
+          (λ i. putReached (g i) (e i) multi ((h ∙ ap (λ (m : ℕ). max m 4) f) i) (back x w i))
+          ∙ sym (ap₂ respondAt t (ap (leb minClientInitialLen) (sym e) ∙ b))
 
-    module _ (multi : Bool) where
-      abbrev respondAt : Bool → Bool → S.Path
-      respondAt a b =
-          pathOf
-          (cond a (pathView x)
-          (cond b (withSent [] (withActive multi (promote rankValidated (reached d (pathView x))))) (withAsk true (reached d (pathView x)))))
+      pub respond-small : (s : Sent) → s ≡ sentOf (C.unmatched d (standing (x .«sent_chals»))) → leb minClientInitialLen n ≡ false → putProbed s n r x ≡ pathOf (respond d multi (pathView x))
+      respond-small s g b =
+          (λ i. putProbed ((g ∙ sym (ap sentOf (left-back d (standing (x .«sent_chals»))))) i) (e i) (f i) (back x w i))
+          ∙ sym (ap₂ respondAt t (ap (leb minClientInitialLen) (sym e) ∙ b))
 
-      pub respond-none : eqb (x .state) 4 ≡ true → x ≡ pathOf (respond d multi (pathView x))
-      respond-none t = back x w ∙ sym (ap (λ (a : Bool). respondAt a (leb minClientInitialLen (largestAfter d (pathView x)))) t)
+-- a response that is refused, or on a Validated path, is idle
+pub busy : (ok b : Bool) → (not ok || b) ≡ false → (ok ≡ true) × (b ≡ false)
+busy true b e = (refl, e)
+busy false b e = let z : _≡_ {A = ℕ} 0 1 = cc in absurd (omega arith)
 
-      module _ (t : eqb (x .state) 4 ≡ false) (n r : ℕ) (e : n ≡ largestAfter d (pathView x)) (f : r ≡ max (x .state) 3) where
-        pub respond-big : (s : Sent) (k : ℕ) → s ≡ sentOf [] → k ≡ max r 4 → leb minClientInitialLen n ≡ true → putReached s n multi k x ≡ pathOf (respond d multi (pathView x))
-        respond-big s k g h b =
-            (λ i. putReached (g i) (e i) multi ((h ∙ ap (λ (m : ℕ). max m 4) f) i) (back x w i))
-            ∙ sym (ap₂ respondAt t (ap (leb minClientInitialLen) (sym e) ∙ b))
+module _ (x : S.Path) (d : ℕ) where
+  pub respond-idle : (multi ok : Bool) → (ok ≡ true → pathFormed x ≡ true) → (not ok || eqb (x .state) 4) ≡ true → x ≡ cond ok (pathOf (respond d multi (pathView x))) x
+  respond-idle multi true w t = respond-none x (w refl) d multi t
+  respond-idle multi false w t = refl
 
-        pub respond-small : (s : Sent) → s ≡ sentOf (C.unmatched d (standing (x .«sent_chals»))) → leb minClientInitialLen n ≡ false → putProbed s n r x ≡ pathOf (respond d multi (pathView x))
-        respond-small s g b =
-            (λ i. putProbed ((g ∙ sym (ap sentOf (left-back d (standing (x .«sent_chals»))))) i) (e i) (f i) (back x w i))
-            ∙ sym (ap₂ respondAt t (ap (leb minClientInitialLen) (sym e) ∙ b))
+  abbrev validatesAt : Bool → Bool → Bool
+  validatesAt a b = a && (not b && leb minClientInitialLen (largestAfter d (pathView x)))
+
+  pub validates-idle : (ok : Bool) → (not ok || eqb (x .state) 4) ≡ true → false ≡ (ok && validates d (pathView x))
+  validates-idle true t = sym (ap (validatesAt true) t)
+  validates-idle false t = refl
+
+  pub validates-is : (ok : Bool) → (not ok || eqb (x .state) 4) ≡ false → (n : ℕ) → n ≡ largestAfter d (pathView x) → leb minClientInitialLen n ≡ (ok && validates d (pathView x))
+  validates-is ok t n e = ap (leb minClientInitialLen) e ∙ sym (ap₂ validatesAt (busy ok (eqb (x .state) 4) t .0) (busy ok (eqb (x .state) 4) t .1))
+
+  module _ (now : ℕ) where
+    abbrev matchedAt : Bool → Bool → Spans
+    matchedAt a b = spansOf (cond a (cond b [] (spans d now (pathView x))) [])
+
+    pub matched-idle : (ok : Bool) → (not ok || eqb (x .state) 4) ≡ true → spansOf [] ≡ spansOf (cond ok (matched d now (pathView x)) [])
+    matched-idle true t = sym (ap (matchedAt true) t)
+    matched-idle false t = refl
+
+    -- what is found among the challenges that stand
+    module _ (r : Matches) (e : r ≡ record { spans = spansOf (C.spans d now (standing (x .«sent_chals»))); size = C.lastSize 0 (C.matching d (standing (x .«sent_chals»))) }) where
+      pub largest-is : max (x .«max_challenge_size») (r .size) ≡ largestAfter d (pathView x)
+      largest-is =
+          ap (λ (m : Matches). max (x .«max_challenge_size») (m .size)) e
+          ∙ ap (max (x .«max_challenge_size»)) (sym (last-view 0 (C.matching d (standing (x .«sent_chals»)))) ∙ sym (ap (lastSize 0) (match-view d (standing (x .«sent_chals»)))))
+
+      pub matched-is : (ok : Bool) → (not ok || eqb (x .state) 4) ≡ false → r .spans ≡ spansOf (cond ok (matched d now (pathView x)) [])
+      matched-is ok t =
+          ap (λ (m : Matches). m .spans) e
+          ∙ ap spansOf (sym (picked-view chalView (carries d) (C.carries d) (λ c. refl) (λ (c : Challenge). now - c .sent) (C.spanTo now) (λ c. refl) (standing (x .«sent_chals»))))
+          ∙ sym (ap₂ matchedAt (busy ok (eqb (x .state) 4) t .0) (busy ok (eqb (x .state) 4) t .1))

@@ -1,7 +1,7 @@
 -- The credit of a path: a sum that stops at the largest, and what gain and charge make of the state.
 use Prim.Native.Nat.{ℕ, _+_, _-_, _*_, _/_, _≤_, _<_, min}
-use mathlib.Core.Path.{_≡_, sym, ap, ap₂, _∙_}
-use mathlib.Core.Bool.{Bool, true, false, cond}
+use mathlib.Core.Path.{_≡_, refl, ap, ap₂, _∙_}
+use mathlib.Core.Bool.{Bool, true, false, cond, not, _&&_}
 use native.Mathlib.Omega.{arith}
 use native.Mathlib.Nat.{div-lt-iff-lt-mul, div-mul-le-self, mul-le-mul-right, mul-comm}
 use Rattle.paths_state.specs.Formed.{pathFormed}
@@ -35,19 +35,19 @@ module _ (credit factor n : ℕ) (h : credit ≤ top) where
       let e : factor * n ≡ n * factor = mul-comm factor n in
       omega arith
 
-module _ (x : S.Path) (w : pathFormed x ≡ true) where
-  pub gain-none : (factor n : ℕ) → x .«verified_peer_address» ≡ true → x ≡ pathOf (gain factor n (pathView x))
-  gain-none factor n t = back x w ∙ sym (ap (λ (b : Bool). pathOf (cond b (pathView x) (withCredit (min (x .«anti_ampl_limit» + factor * n) top) (pathView x)))) t)
+-- m is the credit after the call, and k the credit that is stored: a call that is refused, or on a verified path, changes nothing
+counted : (x : S.Path) (ok v : Bool) → (ok ≡ true → pathFormed x ≡ true) → (m k : ℕ) → k ≡ cond (ok && not v) m (x .«anti_ampl_limit»)
+    → putCredit k x ≡ cond ok (pathOf (cond v (pathView x) (withCredit m (pathView x)))) x
+counted x true false w m k e = ap₂ putCredit e (back x (w refl))
+counted x true true w m k e = ap (λ (n : ℕ). putCredit n x) e ∙ back x (w refl)
+counted x false v w m k e = ap (λ (n : ℕ). putCredit n x) e
 
-  pub gain-is : (factor n k : ℕ) → x .«verified_peer_address» ≡ false → k ≡ min (x .«anti_ampl_limit» + factor * n) top → putCredit k x ≡ pathOf (gain factor n (pathView x))
-  gain-is factor n k t e =
-      ap₂ putCredit e (back x w)
-      ∙ sym (ap (λ (b : Bool). pathOf (cond b (pathView x) (withCredit (min (x .«anti_ampl_limit» + factor * n) top) (pathView x)))) t)
+module _ (x : S.Path) (ok : Bool) (w : ok ≡ true → pathFormed x ≡ true) (len m k : ℕ) where
+  abbrev stored : ℕ → ℕ
+  stored n = cond (ok && not (x .«verified_peer_address»)) n (x .«anti_ampl_limit»)
 
-  pub spend-none : (n : ℕ) → x .«verified_peer_address» ≡ true → x ≡ pathOf (spend n (pathView x))
-  spend-none n t = back x w ∙ sym (ap (λ (b : Bool). pathOf (cond b (pathView x) (withCredit (x .«anti_ampl_limit» - n) (pathView x)))) t)
+  pub gain-is : (factor : ℕ) → m ≡ min (x .«anti_ampl_limit» + factor * len) top → k ≡ stored m → putCredit k x ≡ cond ok (pathOf (gain factor len (pathView x))) x
+  gain-is factor e f = counted x ok (x .«verified_peer_address») w (min (x .«anti_ampl_limit» + factor * len) top) k (f ∙ ap stored e)
 
-  pub spend-is : (n k : ℕ) → x .«verified_peer_address» ≡ false → k ≡ x .«anti_ampl_limit» - n → putCredit k x ≡ pathOf (spend n (pathView x))
-  spend-is n k t e =
-      ap₂ putCredit e (back x w)
-      ∙ sym (ap (λ (b : Bool). pathOf (cond b (pathView x) (withCredit (x .«anti_ampl_limit» - n) (pathView x)))) t)
+  pub spend-is : m ≡ x .«anti_ampl_limit» - len → k ≡ stored m → putCredit k x ≡ cond ok (pathOf (spend len (pathView x))) x
+  spend-is e f = counted x ok (x .«verified_peer_address») w (x .«anti_ampl_limit» - len) k (f ∙ ap stored e)

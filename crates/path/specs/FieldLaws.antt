@@ -2,7 +2,7 @@
 use Prim.Native.Nat.{ℕ, min}
 use mathlib.Core.Path.{_≡_, refl, sym, ap, ap₂, _∙_}
 use mathlib.Core.List.{List, [], _∷_}
-use mathlib.Core.Bool.{Bool, true, false, cond, not, _&&_, _||_}
+use mathlib.Core.Bool.{Bool, true, false, cond, not, _&&_, _||_, or-false}
 use native.Mathlib.Omega.{arith}
 use lib.Dec.{eqb, ltb}
 use lib.ListN.{length}
@@ -23,6 +23,15 @@ use Rattle.paths_rules.specs.Table.{pingInUse}
 use Rattle.path.specs.Reading.{pathView, pathOf}
 use Rattle.path.specs.ReadingLaws.{present-is, seq-is, path-is}
 use Rattle.path.specs.Puts.{putScid, putDcid, putActive, putAsk, putVerified, putPing, putListed}
+
+-- ---- the flag that says whether a call is made: where not, what was there stays
+
+pub made : {A : Type 0} (ok : Bool) (y x : A) → ok ≡ true → (r : A) → r ≡ y → r ≡ cond ok y x
+made ok y x t r e = e ∙ sym (ap (λ (b : Bool). cond b y x) t)
+
+pub pick-flag-is : (ok a b : Bool) → ((ok && a) || (not ok && b)) ≡ cond ok a b
+pick-flag-is true a b = or-false a
+pick-flag-is false a b = refl
 
 -- ---- a path at its start: both lists are empty
 
@@ -87,23 +96,8 @@ module _ (x : S.Path) (w : pathFormed x ≡ true) where
   pub back : x ≡ pathOf (pathView x)
   back = sym (path-is x w)
 
-  pub asked : (b : Bool) → putAsk b x ≡ pathOf (withAsk b (pathView x))
-  asked b = ap (putAsk b) back
-
-  pub activated : (b : Bool) → putActive b x ≡ pathOf (withActive b (pathView x))
-  activated b = ap (putActive b) back
-
-  pub verified-is : (b : Bool) → putVerified b x ≡ pathOf (withVerified b (pathView x))
-  verified-is b = ap (putVerified b) back
-
   pub pinged-is : (b : Bool) → putPing b x ≡ pathOf (withPing b (pathView x))
   pinged-is b = ap (putPing b) back
-
-  pub scid-is : (has : Bool) (n : ℕ) → seqFormed has n ≡ true → putScid has n x ≡ pathOf (withScid (given has n) (pathView x))
-  scid-is has n f = λ i. putScid (sym (present-is has n) i) (sym (seq-is has n f) i) (back i)
-
-  pub dcid-is : (has : Bool) (n : ℕ) → seqFormed has n ≡ true → putDcid has n x ≡ pathOf (withDcid (given has n) (pathView x))
-  dcid-is has n f = λ i. putDcid (sym (present-is has n) i) (sym (seq-is has n f) i) (back i)
 
   pub unlisted-is : (a : FourTuple) (same : Bool) → same ≡ samePair (x .pair) a → putListed (x .listed && not same) x ≡ pathOf (unlist a (pathView x))
   unlisted-is a same e = ap (λ (b : Bool). putListed (x .listed && not b) x) e ∙ ap (putListed (x .listed && not (samePair (x .pair) a))) back
@@ -113,3 +107,27 @@ module _ (x : S.Path) (w : pathFormed x ≡ true) where
 
   pub ping-unused : inUse (pathView x) ≡ false → x ≡ pathOf (pingInUse (pathView x))
   ping-unused t = back ∙ sym (ap (λ (b : Bool). pathOf (cond b (withPing true (pathView x)) (pathView x))) t)
+
+module _ (x : S.Path) where
+  pub asked : (ok : Bool) → (ok ≡ true → pathFormed x ≡ true) → putAsk (ok || x .«need_send_challenge») x ≡ cond ok (pathOf (withAsk true (pathView x))) x
+  asked true w = ap (putAsk true) (back x (w refl))
+  asked false w = refl
+
+  pub verified-is : (ok : Bool) → (ok ≡ true → pathFormed x ≡ true) → putVerified (ok || x .«verified_peer_address») x ≡ cond ok (pathOf (withVerified true (pathView x))) x
+  verified-is true w = ap (putVerified true) (back x (w refl))
+  verified-is false w = refl
+
+  pub activated : (ok b : Bool) → (ok ≡ true → pathFormed x ≡ true) → (v : Bool) → v ≡ cond ok b (x .active) → putActive v x ≡ cond ok (pathOf (withActive b (pathView x))) x
+  activated true b w v e = ap₂ putActive e (back x (w refl))
+  activated false b w v e = ap (λ (a : Bool). putActive a x) e
+
+  module _ (has : Bool) (n : ℕ) where
+    pub scid-is : (ok : Bool) → (ok ≡ true → (pathFormed x ≡ true) × (seqFormed has n ≡ true)) → (h : Bool) (k : ℕ) → h ≡ cond ok has (x .«has_scid») → k ≡ cond ok n (x .«scid_seq»)
+        → putScid h k x ≡ cond ok (pathOf (withScid (given has n) (pathView x))) x
+    scid-is true w h k e f = λ i. putScid ((e ∙ sym (present-is has n)) i) ((f ∙ sym (seq-is has n (w refl .1))) i) (back x (w refl .0) i)
+    scid-is false w h k e f = ap₂ (λ (a : Bool) (m : ℕ). putScid a m x) e f
+
+    pub dcid-is : (ok : Bool) → (ok ≡ true → (pathFormed x ≡ true) × (seqFormed has n ≡ true)) → (h : Bool) (k : ℕ) → h ≡ cond ok has (x .«has_dcid») → k ≡ cond ok n (x .«dcid_seq»)
+        → putDcid h k x ≡ cond ok (pathOf (withDcid (given has n) (pathView x))) x
+    dcid-is true w h k e f = λ i. putDcid ((e ∙ sym (present-is has n)) i) ((f ∙ sym (seq-is has n (w refl .1))) i) (back x (w refl .0) i)
+    dcid-is false w h k e f = ap₂ (λ (a : Bool) (m : ℕ). putDcid a m x) e f

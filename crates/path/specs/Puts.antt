@@ -1,6 +1,6 @@
 -- The state of a path with some fields changed, as the code changes them. Each `putX .. (pathOf v)` computes to `pathOf (withX .. v)`.
 use Prim.Native.Nat.{ℕ}
-use mathlib.Core.Bool.{Bool, true, false}
+use mathlib.Core.Bool.{Bool, true, false, not, _&&_, _||_}
 use Rattle.challenges.specs.declared.received.Received.{Received}
 use Rattle.challenges.specs.declared.sent.Sent.{Sent}
 use Rattle.paths_state.specs.declared.state.Path.{Path}
@@ -48,10 +48,6 @@ putProbed s l r x = record { pair = x .pair; «recv_chals» = x .«recv_chals»;
 abbrev pub putReached : Sent → ℕ → Bool → ℕ → Path → Path
 putReached s l b r x = record { pair = x .pair; «recv_chals» = x .«recv_chals»; «sent_chals» = s; «max_datagram_size» = x .«max_datagram_size»; «scid_seq» = x .«scid_seq»; «dcid_seq» = x .«dcid_seq»; «lost_chal» = 0; «max_challenge_size» = l; «anti_ampl_limit» = x .«anti_ampl_limit»; state = r; «has_scid» = x .«has_scid»; «has_dcid» = x .«has_dcid»; active = b; «need_send_challenge» = x .«need_send_challenge»; «verified_peer_address» = true; «peer_verified_local_address» = x .«peer_verified_local_address»; «need_send_ping» = x .«need_send_ping»; listed = x .listed }
 
--- a challenge is lost
-abbrev pub putLost : Sent → ℕ → Path → Path
-putLost s n x = record { pair = x .pair; «recv_chals» = x .«recv_chals»; «sent_chals» = s; «max_datagram_size» = x .«max_datagram_size»; «scid_seq» = x .«scid_seq»; «dcid_seq» = x .«dcid_seq»; «lost_chal» = n; «max_challenge_size» = x .«max_challenge_size»; «anti_ampl_limit» = x .«anti_ampl_limit»; state = x .state; «has_scid» = x .«has_scid»; «has_dcid» = x .«has_dcid»; active = x .active; «need_send_challenge» = true; «verified_peer_address» = x .«verified_peer_address»; «peer_verified_local_address» = x .«peer_verified_local_address»; «need_send_ping» = x .«need_send_ping»; listed = x .listed }
-
--- the last challenge is lost
-abbrev pub putFailed : Sent → ℕ → Path → Path
-putFailed s n x = record { pair = x .pair; «recv_chals» = x .«recv_chals»; «sent_chals» = s; «max_datagram_size» = x .«max_datagram_size»; «scid_seq» = x .«scid_seq»; «dcid_seq» = x .«dcid_seq»; «lost_chal» = n; «max_challenge_size» = x .«max_challenge_size»; «anti_ampl_limit» = x .«anti_ampl_limit»; state = 0; «has_scid» = x .«has_scid»; «has_dcid» = x .«has_dcid»; active = false; «need_send_challenge» = x .«need_send_challenge»; «verified_peer_address» = x .«verified_peer_address»; «peer_verified_local_address» = x .«peer_verified_local_address»; «need_send_ping» = x .«need_send_ping»; listed = x .listed }
+-- a challenge is lost: with b the path fails, otherwise another is asked for
+abbrev pub putLost : Sent → ℕ → ℕ → Bool → Path → Path
+putLost s n r b x = record { pair = x .pair; «recv_chals» = x .«recv_chals»; «sent_chals» = s; «max_datagram_size» = x .«max_datagram_size»; «scid_seq» = x .«scid_seq»; «dcid_seq» = x .«dcid_seq»; «lost_chal» = n; «max_challenge_size» = x .«max_challenge_size»; «anti_ampl_limit» = x .«anti_ampl_limit»; state = r; «has_scid» = x .«has_scid»; «has_dcid» = x .«has_dcid»; active = not b && x .active; «need_send_challenge» = not b || x .«need_send_challenge»; «verified_peer_address» = x .«verified_peer_address»; «peer_verified_local_address» = x .«peer_verified_local_address»; «need_send_ping» = x .«need_send_ping»; listed = x .listed }

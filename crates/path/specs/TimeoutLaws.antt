@@ -1,13 +1,14 @@
 -- Challenges are lost, one after the other.
 use Prim.Native.Nat.{ℕ, _+_, _≤_, _<_}
-use mathlib.Core.Path.{_≡_, refl, sym, ap, ap₂, subst, _∙_}
+use mathlib.Core.Path.{_≡_, refl, sym, ap, subst, _∙_}
 use mathlib.Core.List.{List, [], _∷_, map}
 use mathlib.Core.Bool.{Bool, true, false, cond, not, _&&_}
 use native.Mathlib.Omega.{arith}
 use native.Mathlib.Nat.{not-suc-le-zero}
 use lib.Dec.{leb, ltb}
 use lib.ListN.{length, drop, length-map}
-use borrow.Author.Tests.{lt-ltb, le-ltb, ltb-true}
+use borrow.Author.Tests.{lt-ltb, le-ltb, ltb-true, leb-true, leb-false}
+use Rattle.lists.specs.Bools.{and-both}
 use Rattle.values.specs.Limits.{maxLost, maxPathChalsSent, maxProbingTimeouts}
 use Rattle.values.specs.Time.{deadlineOf}
 use Rattle.values.specs.declared.time.Deadline.{Deadline}
@@ -23,12 +24,16 @@ use Rattle.paths_rules.specs.Path.{Path, Challenge, expire, failed, probing, ti
 use Rattle.path.specs.Reading.{chalView, chalOf, pathView, pathOf}
 use Rattle.path.specs.ReadingLaws.{chals-is, path-of}
 use Rattle.path.specs.FieldLaws.{back}
-use Rattle.path.specs.Puts.{putLost, putFailed}
+use Rattle.path.specs.Puts.{putLost}
 
 -- the front deadline is passed
 abbrev pub late : ℕ → List Challenge → Bool
 late now [] = false
 late now (c ∷ cs) = leb (c .deadline) now
+
+-- a timeout changes the path
+abbrev pub expires : ℕ → Path → Bool
+expires now v = probing v && late now (v .sent)
 
 -- the front one goes: another is asked for, or the path fails
 abbrev pub loseFront : Path → Path
@@ -63,15 +68,20 @@ module _ (x : S.Path) (k : Known x) where
       (withAsk true (withLost (x .«lost_chal» + 1) (withSent (drop 1 (pathView x .sent)) (pathView x))))
       (failed (withLost (x .«lost_chal» + 1) (pathView x))))
 
-  pub lost-again : (s : Sent) → s ≡ sentOf (drop 1 (standing (x .«sent_chals»))) → x .«lost_chal» + 1 < maxProbingTimeouts → putLost s (x .«lost_chal» + 1) x ≡ pathOf (loseFront (pathView x))
-  lost-again s e h =
-      ap₂ (λ (t : Sent) (y : S.Path). putLost t (x .«lost_chal» + 1) y) (e ∙ sym (ap sentOf (drop-back (standing (x .«sent_chals»))))) (k .is)
-      ∙ sym (ap loseAt (lt-ltb (x .«lost_chal» + 1) maxProbingTimeouts h))
+  -- s and r are what stands after it, and the state
+  module _ (s : Sent) (r : ℕ) where
+    lost-at : (b : Bool) → leb maxProbingTimeouts (x .«lost_chal» + 1) ≡ b → s ≡ sentOf (cond b [] (drop 1 (standing (x .«sent_chals»)))) → r ≡ cond b 0 (x .state)
+        → putLost s (x .«lost_chal» + 1) r b x ≡ pathOf (loseFront (pathView x))
+    lost-at true t e f =
+        (λ i. putLost (e i) (x .«lost_chal» + 1) (f i) true (k .is i))
+        ∙ sym (ap loseAt (le-ltb (x .«lost_chal» + 1) maxProbingTimeouts (leb-true maxProbingTimeouts (x .«lost_chal» + 1) t)))
+    lost-at false t e f =
+        (λ i. putLost ((e ∙ sym (ap sentOf (drop-back (standing (x .«sent_chals»))))) i) (x .«lost_chal» + 1) (f i) false (k .is i))
+        ∙ sym (ap loseAt (lt-ltb (x .«lost_chal» + 1) maxProbingTimeouts (leb-false maxProbingTimeouts (x .«lost_chal» + 1) t)))
 
-  pub lost-last : (s : Sent) → s ≡ sentOf [] → maxProbingTimeouts ≤ x .«lost_chal» + 1 → putFailed s (x .«lost_chal» + 1) x ≡ pathOf (loseFront (pathView x))
-  lost-last s e h =
-      ap₂ (λ (t : Sent) (y : S.Path). putFailed t (x .«lost_chal» + 1) y) e (k .is)
-      ∙ sym (ap loseAt (le-ltb (x .«lost_chal» + 1) maxProbingTimeouts h))
+    pub lost-is : s ≡ sentOf (cond (leb maxProbingTimeouts (x .«lost_chal» + 1)) [] (drop 1 (standing (x .«sent_chals»)))) → r ≡ cond (leb maxProbingTimeouts (x .«lost_chal» + 1)) 0 (x .state)
+        → putLost s (x .«lost_chal» + 1) r (leb maxProbingTimeouts (x .«lost_chal» + 1)) x ≡ pathOf (loseFront (pathView x))
+    lost-is e f = lost-at (leb maxProbingTimeouts (x .«lost_chal» + 1)) refl e f
 
 -- ---- one after the other
 
@@ -134,17 +144,22 @@ module _ (now : ℕ) (v : Path) where
   pub late-some : late now (v .sent) ≡ true → 0 < length (v .sent)
   late-some t = omega (arith, fewer t)
 
+  -- p says whether the path is probing
+  pub expire-stays : (p : Bool) → (p && late now (v .sent)) ≡ false → cond p (expire now (v .sent) v) v ≡ v
+  expire-stays true t = expire-done t
+  expire-stays false t = refl
+
 -- ---- the loop
 
 pub record Going (now : ℕ) (x u : S.Path) (going : Bool) : Type 0 where
   pub known : Known u
   pub few : length (pathView u .sent) ≤ maxPathChalsSent
   pub low : 0 < length (pathView u .sent) → u .«lost_chal» ≤ maxLost
-  pub test : going ≡ late now (pathView u .sent)
-  pub same : expire now (pathView u .sent) (pathView u) ≡ expire now (pathView x .sent) (pathView x)
+  pub test : going ≡ (probing (pathView x) && late now (pathView u .sent))
+  pub same : cond (probing (pathView x)) (expire now (pathView u .sent) (pathView u)) (pathView u) ≡ timeout now (pathView x)
 
 module _ (now : ℕ) (x : S.Path) where
-  pub going-first : pathFormed x ≡ true → (b : Bool) → b ≡ late now (pathView x .sent) → Going now x x b
+  pub going-first : pathFormed x ≡ true → (b : Bool) → b ≡ expires now (pathView x) → Going now x x b
   going-first w b e =
       let f = path-facts x w in
       let n = length-map (standing (x .«sent_chals»)) chalView ∙ standing-long (x .«sent_chals») (f .sent) in
@@ -154,8 +169,11 @@ module _ (now : ℕ) (x : S.Path) where
     view-next : pathView y ≡ loseFront (pathView u)
     view-next = ap pathView e ∙ path-of (loseFront (pathView u))
 
+    is-probing : probing (pathView x) ≡ true
+    is-probing = and-both (probing (pathView x)) (late now (pathView u .sent)) (sym (g .test) ∙ t) .0
+
     is-late : late now (pathView u .sent) ≡ true
-    is-late = sym (g .test) ∙ t
+    is-late = and-both (probing (pathView x)) (late now (pathView u .sent)) (sym (g .test) ∙ t) .1
 
     next-few : length (loseFront (pathView u) .sent) ≤ maxPathChalsSent
     next-few = omega (arith, fewer now (pathView u) is-late, g .few)
@@ -168,24 +186,30 @@ module _ (now : ℕ) (x : S.Path) where
         sent-at (map chalOf (loseFront (pathView u) .sent)) (y .«sent_chals») (ap (λ (z : S.Path). z .«sent_chals») e)
         (omega (arith, length-map (loseFront (pathView u) .sent) chalOf, next-few))
 
+    going-same : cond (probing (pathView x)) (expire now (pathView y .sent) (pathView y)) (pathView y) ≡ timeout now (pathView x)
+    going-same =
+        ap (λ (p : Bool). cond p (expire now (pathView y .sent) (pathView y)) (pathView y)) is-probing
+        ∙ ap (λ (v : Path). expire now (v .sent) v) view-next
+        ∙ expire-front now (pathView u) is-late
+        ∙ ap (λ (p : Bool). cond p (expire now (pathView u .sent) (pathView u)) (pathView u)) (sym is-probing)
+        ∙ g .same
+
     pub going-next : (a : Bool) → a ≡ late now (pathView y .sent) → Going now x y a
     going-next a f =
         record {
           known = record { is = e ∙ ap pathOf (sym view-next); well = next-well };
           few = subst (λ (v : Path). length (v .sent) ≤ maxPathChalsSent) (sym view-next) next-few;
           low = subst (λ (v : Path). 0 < length (v .sent) → v .lost ≤ maxLost) (sym view-next) (few-lost now (pathView u));
-          test = f;
-          same = ap (λ (v : Path). expire now (v .sent) v) view-next ∙ expire-front now (pathView u) is-late ∙ g .same;
+          test = f ∙ ap (λ (p : Bool). p && late now (pathView y .sent)) (sym is-probing);
+          same = going-same;
         }
 
   pub going-lost : (u : S.Path) (b : Bool) → Going now x u b → b ≡ true → u .«lost_chal» ≤ maxLost
-  going-lost u b g t = g .low (late-some now (pathView u) (sym (g .test) ∙ t))
+  going-lost u b g t = g .low (late-some now (pathView u) (and-both (probing (pathView x)) (late now (pathView u .sent)) (sym (g .test) ∙ t) .1))
 
-  pub going-done : (u : S.Path) (b : Bool) → Going now x u b → b ≡ false → probing (pathView x) ≡ true → u ≡ pathOf (timeout now (pathView x))
-  going-done u b g t p =
-      g .known .is
-      ∙ ap pathOf (sym (expire-done now (pathView u) (sym (g .test) ∙ t)) ∙ g .same)
-      ∙ sym (ap (λ (a : Bool). pathOf (cond a (expire now (pathView x .sent) (pathView x)) (pathView x))) p)
+  pub going-done : (u : S.Path) (b : Bool) → Going now x u b → b ≡ false → u ≡ pathOf (timeout now (pathView x))
+  going-done u b g t = g .known .is ∙ ap pathOf (sym (expire-stays now (pathView u) (probing (pathView x)) (sym (g .test) ∙ t)) ∙ g .same)
 
-  pub timeout-none : pathFormed x ≡ true → probing (pathView x) ≡ false → x ≡ pathOf (timeout now (pathView x))
-  timeout-none w p = back x w ∙ sym (ap (λ (a : Bool). pathOf (cond a (expire now (pathView x .sent) (pathView x)) (pathView x))) p)
+  -- a path that is not overdue stays as it is
+  pub timeout-stays : pathFormed x ≡ true → expires now (pathView x) ≡ false → pathOf (timeout now (pathView x)) ≡ x
+  timeout-stays w t = ap pathOf (expire-stays now (pathView x) (probing (pathView x)) t) ∙ sym (back x w)

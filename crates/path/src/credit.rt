@@ -1,10 +1,11 @@
-// The credit of a path whose peer address is unverified.
+// The credit of a path whose peer address is unverified. With `ok` false it stays as it is.
 ghost use mathlib.Core.Path.{_≡_};
-ghost use mathlib.Core.Bool.{true};
+ghost use mathlib.Core.Bool.{cond, true};
 ghost use Prim.Native.Nat.{_+_, _-_, _*_, min};
 ghost use Rattle.paths_state.specs.Formed.{pathFormed};
 ghost use Rattle.paths_rules.specs.Path.{gain, spend, top};
 ghost use Rattle.path.specs.Reading.{pathOf, pathView};
+use crate::picks;
 use paths_state::Path;
 
 // The largest credit.
@@ -31,30 +32,28 @@ fn fewer(credit: u64, n: u64) -> u64
     if credit < n { 0 } else { credit - n }
 }
 
-pub fn gained(x: Path, factor: u64, len: u64) -> Path
-    requires { ⌜ pathFormed x ≡ true ⌝ }
-    ensures { λ r. ⌜ r ≡ pathOf (gain factor len (pathView x)) ⌝ }
+pub fn gained(x: Path, ok: bool, factor: u64, len: u64) -> Path
+    requires { ⌜ (ok ≡ true → pathFormed x ≡ true) ⌝ }
+    ensures { λ r. ⌜ r ≡ cond ok (pathOf (gain factor len (pathView x))) x ⌝ }
 {
-    if x.verified_peer_address {
-        return x;
-    }
     let credit = x.anti_ampl_limit;
     let sum = more(credit, factor, len);
+    let counts = ok & !x.verified_peer_address;
+    let left = picks::pick(counts, sum, credit);
     let mut u = x;
-    u.anti_ampl_limit = sum;
+    u.anti_ampl_limit = left;
     u
 }
 
-pub fn spent(x: Path, len: u64) -> Path
-    requires { ⌜ pathFormed x ≡ true ⌝ }
-    ensures { λ r. ⌜ r ≡ pathOf (spend len (pathView x)) ⌝ }
+pub fn spent(x: Path, ok: bool, len: u64) -> Path
+    requires { ⌜ (ok ≡ true → pathFormed x ≡ true) ⌝ }
+    ensures { λ r. ⌜ r ≡ cond ok (pathOf (spend len (pathView x))) x ⌝ }
 {
-    if x.verified_peer_address {
-        return x;
-    }
     let credit = x.anti_ampl_limit;
     let rest = fewer(credit, len);
+    let counts = ok & !x.verified_peer_address;
+    let left = picks::pick(counts, rest, credit);
     let mut u = x;
-    u.anti_ampl_limit = rest;
+    u.anti_ampl_limit = left;
     u
 }

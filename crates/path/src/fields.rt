@@ -1,61 +1,66 @@
-// A path with one field set.
+// A path with one field set. With `ok` false it stays as it is.
 ghost use mathlib.Core.Path.{_≡_};
-ghost use mathlib.Core.Bool.{true};
+ghost use mathlib.Core.Bool.{cond, true};
 ghost use Rattle.lists.specs.Defs.{given};
 ghost use Rattle.paths_state.specs.Formed.{pathFormed, seqFormed};
-ghost use Rattle.paths_rules.specs.Path.{unlist, withActive, withAsk, withDcid, withPing, withScid, withVerified};
+ghost use Rattle.paths_rules.specs.Path.{withActive, withAsk, withDcid, withPing, withScid, withVerified};
 ghost use Rattle.paths_rules.specs.Table.{pingInUse};
 ghost use Rattle.path.specs.Reading.{pathOf, pathView};
+use crate::picks;
 use crate::tests;
 use paths_state::Path;
-use values::FourTuple;
 
 // A challenge is asked for.
-pub fn initiated(x: Path) -> Path
-    requires { ⌜ pathFormed x ≡ true ⌝ }
-    ensures { λ r. ⌜ r ≡ pathOf (withAsk true (pathView x)) ⌝ }
+pub fn initiated(x: Path, ok: bool) -> Path
+    requires { ⌜ (ok ≡ true → pathFormed x ≡ true) ⌝ }
+    ensures { λ r. ⌜ r ≡ cond ok (pathOf (withAsk true (pathView x))) x ⌝ }
 {
     let mut u = x;
-    u.need_send_challenge = true;
+    u.need_send_challenge = ok | x.need_send_challenge;
     u
 }
 
-pub fn with_scid(x: Path, has: bool, seq: u64) -> Path
-    requires { ⌜ (pathFormed x ≡ true) × (seqFormed has seq ≡ true) ⌝ }
-    ensures { λ r. ⌜ r ≡ pathOf (withScid (given has seq) (pathView x)) ⌝ }
+pub fn with_scid(x: Path, ok: bool, has: bool, seq: u64) -> Path
+    requires { ⌜ (ok ≡ true → (pathFormed x ≡ true) × (seqFormed has seq ≡ true)) ⌝ }
+    ensures { λ r. ⌜ r ≡ cond ok (pathOf (withScid (given has seq) (pathView x))) x ⌝ }
 {
+    let flag = picks::pick_flag(ok, has, x.has_scid);
+    let n = picks::pick(ok, seq, x.scid_seq);
     let mut u = x;
-    u.has_scid = has;
-    u.scid_seq = seq;
+    u.has_scid = flag;
+    u.scid_seq = n;
     u
 }
 
-pub fn with_dcid(x: Path, has: bool, seq: u64) -> Path
-    requires { ⌜ (pathFormed x ≡ true) × (seqFormed has seq ≡ true) ⌝ }
-    ensures { λ r. ⌜ r ≡ pathOf (withDcid (given has seq) (pathView x)) ⌝ }
+pub fn with_dcid(x: Path, ok: bool, has: bool, seq: u64) -> Path
+    requires { ⌜ (ok ≡ true → (pathFormed x ≡ true) × (seqFormed has seq ≡ true)) ⌝ }
+    ensures { λ r. ⌜ r ≡ cond ok (pathOf (withDcid (given has seq) (pathView x))) x ⌝ }
 {
+    let flag = picks::pick_flag(ok, has, x.has_dcid);
+    let n = picks::pick(ok, seq, x.dcid_seq);
     let mut u = x;
-    u.has_dcid = has;
-    u.dcid_seq = seq;
+    u.has_dcid = flag;
+    u.dcid_seq = n;
     u
 }
 
-pub fn with_active(x: Path, b: bool) -> Path
-    requires { ⌜ pathFormed x ≡ true ⌝ }
-    ensures { λ r. ⌜ r ≡ pathOf (withActive b (pathView x)) ⌝ }
+pub fn with_active(x: Path, ok: bool, b: bool) -> Path
+    requires { ⌜ (ok ≡ true → pathFormed x ≡ true) ⌝ }
+    ensures { λ r. ⌜ r ≡ cond ok (pathOf (withActive b (pathView x))) x ⌝ }
 {
+    let flag = picks::pick_flag(ok, b, x.active);
     let mut u = x;
-    u.active = b;
+    u.active = flag;
     u
 }
 
 // The peer's address is verified.
-pub fn verified(x: Path) -> Path
-    requires { ⌜ pathFormed x ≡ true ⌝ }
-    ensures { λ r. ⌜ r ≡ pathOf (withVerified true (pathView x)) ⌝ }
+pub fn verified(x: Path, ok: bool) -> Path
+    requires { ⌜ (ok ≡ true → pathFormed x ≡ true) ⌝ }
+    ensures { λ r. ⌜ r ≡ cond ok (pathOf (withVerified true (pathView x))) x ⌝ }
 {
     let mut u = x;
-    u.verified_peer_address = true;
+    u.verified_peer_address = ok | x.verified_peer_address;
     u
 }
 
@@ -76,16 +81,4 @@ pub fn ping_in_use(x: Path) -> Path
         return pinged(x);
     }
     x
-}
-
-// The listing of the pair is removed.
-pub fn unlisted(x: Path, pair: FourTuple) -> Path
-    requires { ⌜ pathFormed x ≡ true ⌝ }
-    ensures { λ r. ⌜ r ≡ pathOf (unlist pair (pathView x)) ⌝ }
-{
-    let own = x.pair;
-    let same = values::pair_eq(own, pair);
-    let mut u = x;
-    u.listed = x.listed & !same;
-    u
 }

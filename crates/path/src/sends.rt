@@ -1,7 +1,8 @@
 // A challenge is sent.
 ghost use mathlib.Core.Path.{_≡_};
-ghost use mathlib.Core.Bool.{true};
+ghost use mathlib.Core.Bool.{cond, true};
 ghost use Prim.Native.Nat.{_*_, _^_, _≤_, max};
+ghost use lib.Dec.{eqb};
 ghost use Rattle.values.specs.Limits.{initialChalTimeout, maxShift};
 ghost use Rattle.paths_state.specs.Formed.{pathFormed};
 ghost use Rattle.paths_rules.specs.Path.{send};
@@ -33,11 +34,14 @@ fn back_off(lost: u64) -> u64
     INITIAL_CHAL_TIMEOUT << lost
 }
 
-// 8: no deadline; 6: sixteen challenges stand; 0 otherwise.
-pub fn send_refusal(x: Path, now: Moment) -> u8
-    requires { ⌜ pathFormed x ≡ true ⌝ }
-    ensures { λ r. ⌜ r ≡ refusal (now .us) (pathView x) ⌝ }
+// The refusal so far, n, stands; of 0 comes 8: no deadline; 6: sixteen challenges stand; 0 otherwise.
+pub fn send_refusal(x: Path, n: u8, now: Moment) -> u8
+    requires { ⌜ (n ≡ 0 → pathFormed x ≡ true) ⌝ }
+    ensures { λ r. ⌜ r ≡ cond (eqb n 0) (refusal (now .us) (pathView x)) n ⌝ }
 {
+    if n != 0 {
+        return n;
+    }
     let lost = x.lost_chal;
     if MAX_SHIFT < lost {
         return FAR_DEADLINE;
@@ -55,11 +59,14 @@ pub fn send_refusal(x: Path, now: Moment) -> u8
     0
 }
 
-// It goes to the end.
-pub fn sent(x: Path, data: u64, size: u64, now: Moment) -> Path
-    requires { ⌜ (pathFormed x ≡ true) × (refusal (now .us) (pathView x) ≡ 0) ⌝ }
-    ensures { λ r. ⌜ r ≡ pathOf (send «data» size (now .us) (pathView x)) ⌝ }
+// It goes to the end. With `ok` false the path stays as it is.
+pub fn sent(x: Path, ok: bool, data: u64, size: u64, now: Moment) -> Path
+    requires { ⌜ (ok ≡ true → (pathFormed x ≡ true) × (refusal (now .us) (pathView x) ≡ 0)) ⌝ }
+    ensures { λ r. ⌜ r ≡ cond ok (pathOf (send «data» size (now .us) (pathView x))) x ⌝ }
 {
+    if !ok {
+        return x;
+    }
     let lost = x.lost_chal;
     let wait = back_off(lost);
     let c = Challenge {

@@ -7,7 +7,8 @@ ghost use Rattle.challenges.specs.Challenges.{SentWell};
 ghost use Rattle.paths_state.specs.Formed.{pathFormed};
 ghost use Rattle.paths_rules.specs.Path.{timeout};
 ghost use Rattle.path.specs.Reading.{pathOf, pathView};
-ghost use Rattle.path.specs.TimeoutLaws.{Known, late, loseFront};
+ghost use Rattle.path.specs.TimeoutLaws.{Known, expires, late, loseFront};
+use crate::picks;
 use crate::ranks::FAILED;
 use crate::ranks::VALIDATING;
 use crate::ranks::VALIDATING_MTU;
@@ -31,32 +32,35 @@ fn front_lost(x: Path) -> Path
     ensures { λ r. ⌜ r ≡ pathOf (loseFront (pathView x)) ⌝ }
 {
     let lost = x.lost_chal + 1;
+    let fails = MAX_PROBING_TIMEOUTS <= lost;
+    let s = x.sent_chals;
+    let rest = challenges::sent_rest(s, fails);
+    let rank = picks::pick_rank(fails, FAILED, x.state);
     let mut u = x;
+    u.sent_chals = rest;
     u.lost_chal = lost;
-    if lost < MAX_PROBING_TIMEOUTS {
-        let s = x.sent_chals;
-        let rest = challenges::sent_drop_front(s);
-        u.sent_chals = rest;
-        u.need_send_challenge = true;
-        return u;
-    }
-    let none = challenges::no_sent();
-    u.sent_chals = none;
-    u.active = false;
-    u.state = FAILED;
+    u.state = rank;
+    u.active = !fails & x.active;
+    u.need_send_challenge = !fails | x.need_send_challenge;
     u
+}
+
+// Whether a timeout changes the path.
+pub fn overdue(x: Path, now: Moment) -> bool
+    requires { ⌜ pathFormed x ≡ true ⌝ }
+    ensures { λ r. ⌜ r ≡ expires (now .us) (pathView x) ⌝ }
+{
+    let probing = (x.state == VALIDATING) | (x.state == VALIDATING_MTU);
+    let late = front_late(x, now);
+    probing & late
 }
 
 pub fn timed_out(x: Path, now: Moment) -> Path
     requires { ⌜ pathFormed x ≡ true ⌝ }
     ensures { λ r. ⌜ r ≡ pathOf (timeout (now .us) (pathView x)) ⌝ }
 {
-    let probing = (x.state == VALIDATING) | (x.state == VALIDATING_MTU);
-    if !probing {
-        return x;
-    }
     let mut u = x;
-    let mut going = front_late(u, now);
+    let mut going = overdue(u, now);
     while going {
         u = front_lost(u);
         going = front_late(u, now);

@@ -11,12 +11,11 @@ use lib.Seq.{set-out}
 use borrow.Author.Tests.{ne-eqb, lt-ltb, le-ltb, ltb-true, ltb-false}
 use Rattle.lists.specs.Defs.{given, firstWith, front}
 use Rattle.lists.specs.Search.{first-below}
-use Rattle.values.specs.Limits.{maxPaths}
 use Rattle.values.specs.declared.time.Deadline.{Deadline}
 use Rattle.values.specs.declared.answers.Counted.{Counted}
 use Rattle.values.specs.declared.answers.Numbered.{Numbered}
 use Rattle.values.specs.declared.answers.Timed.{Timed}
-use Rattle.paths_rules.specs.Calls.{refusal, Read, Act, Call, effect, unlessKnown, seen, answer, activeOut, step, Get, Allowed, Pop, Send, Respond, Look, GetActive, On, Ask}
+use Rattle.paths_rules.specs.Calls.{refusal, Read, Act, Call, effect, seen, answer, activeOut, step, Get, Allowed, Pop, Send, Respond, Look, GetActive, On, Ask}
 use Rattle.paths_rules.specs.Path.{Path, zeroPath, validates, matched, allowed, flagged}
 use Rattle.paths_rules.specs.Table.{Table, Answer, Out, refused, accepted, pathAt, known, withPaths, onPath, Nothing, Responded}
 use Rattle.challenges.specs.Challenges.{spansOf, waitingOf}
@@ -26,12 +25,11 @@ use Rattle.paths_state.specs.Formed.{wellFormed}
 use Rattle.paths_state.specs.declared.state.Paths.{Paths}
 use Rattle.path.specs.Reading.{pathView, pathOf}
 use Rattle.path.specs.ReadingLaws.{path-of}
-use Rattle.paths.specs.Reading.{view, putPaths, pathsOf, partsOf, countedAt, numberedAt, pathAnswerAt, foundAt, pathAnswerOf, foundOf, doneAt, insertedAt, poppedAt, respondedAt, checked, countedCall, pathCall}
-use Rattle.paths.specs.ReadingLaws.{tidy, paths-long, view-is, formed-at, path-at-is, stored-is}
+use Rattle.paths.specs.Reading.{view, putPaths, pathsOf, partsOf, countedAt, numberedAt, pathAnswerAt, foundAt, pathAnswerOf, foundOf, doneAt, poppedAt, respondedAt, checked, countedCall, pathCall}
+use Rattle.paths.specs.ReadingLaws.{tidy, paths-long, view-is, path-at-is, stored-is}
 use Rattle.paths.specs.declared.answers.PathAnswer.{PathAnswer}
 use Rattle.paths.specs.declared.answers.FoundAnswer.{FoundAnswer}
 use Rattle.paths.specs.declared.answers.DoneOut.{DoneOut}
-use Rattle.paths.specs.declared.answers.InsertedOut.{InsertedOut}
 use Rattle.paths.specs.declared.answers.PoppedOut.{PoppedOut}
 use Rattle.paths.specs.declared.answers.RespondedOut.{RespondedOut}
 use Rattle.path.specs.SendLaws as N
@@ -166,13 +164,6 @@ module _ (t : Paths) (id : ℕ) (a : PathAnswer) (e : a ≡ pathCall t true (On 
     pub got-below : id < t .count
     got-below = omega (arith, ltb-true id (length (view t .paths)) got-known, paths-long t (tidy t got-well))
 
-    pub got-formed : F.pathFormed (a .path) ≡ true
-    got-formed = ap F.pathFormed (got-path ∙ sym (path-at-is t (tidy t got-well) F.zeroPath id got-below)) ∙ formed-at t (tidy t got-well) F.zeroPath id got-below
-
-    -- what storing a path asks
-    pub got-room : (id < t .count) × (t .count ≤ maxPaths)
-    got-room = (got-below, tidy t got-well .held .few)
-
 -- ---- a call that changes one path. X builds the result of a refusal, an answer and a state
 
 abbrev pub called : {B : Type 0} → (ℕ → Answer → Paths → B) → Paths → Bool → Call → B
@@ -227,9 +218,6 @@ module _ {B : Type 0} (X : ℕ → Answer → Paths → B) (t : Paths) (f : Bool
             go (missing p k g) = act-refused p (a .refusal) (r k ∙ sym (n 2 zeroPath g)) z
             go (here p k g) = absurd (z (n 0 (pathAt id (view t)) g))
 
-        pub act-no : (a .refusal ≡ 0 → ⊥) → refusal (view t) id q ≡ unlessKnown id (view t) → X (a .refusal) Nothing t ≡ called X t f (On id q)
-        act-no z r = act-no-known z (λ k. r ∙ ap (λ (b : Bool). cond b 0 2) k)
-
         -- an unknown id is accepted, and nothing changes
         pub act-excused : (a .refusal ≡ 0 → ⊥) → refusal (view t) id q ≡ 0 → (known id (view t) ≡ false → X 0 (answer (view t) id q) t ≡ X 0 Nothing t)
             → (m : ℕ) → m ≡ cond (eqb (a .refusal) 2) 0 (a .refusal) → X m Nothing t ≡ called X t f (On id q)
@@ -252,19 +240,11 @@ module _ {B : Type 0} (X : ℕ → Answer → Paths → B) (t : Paths) (f : Bool
 abbrev pub doneX : ℕ → Answer → Paths → DoneOut
 doneX n a t = doneAt n t
 
-abbrev pub insertedX : ℕ → Answer → Paths → InsertedOut
-insertedX n a t = insertedAt n (partsOf a .number) t
-
 abbrev pub poppedX : ℕ → Answer → Paths → PoppedOut
 poppedX n a t = poppedAt n (partsOf a .perhaps) t
 
 abbrev pub respondedX : ℕ → Answer → Paths → RespondedOut
 respondedX n a t = respondedAt n (partsOf a .flag) (partsOf a .spans) t
-
--- ---- multipath is on
-
-abbrev pub multi : Paths → Paths
-multi t = record { items = t .items; count = t .count; «max_paths» = t .«max_paths»; «anti_ampl_factor» = t .«anti_ampl_factor»; «is_multipath» = true; «is_server» = t .«is_server» }
 
 -- ---- a wish on an unknown id
 

@@ -2,6 +2,8 @@ pub mod Reading
 pub mod Lists
 pub mod ReadingLaws
 pub mod CallLaws
+pub mod Acts
+pub mod ActLaws
 pub mod TableLaws
 pub mod Ways
 pub mod WellLaws

@@ -1,10 +1,10 @@
 -- Laws of lists that the tables of paths need: a store in a padded array, what stands at a place of it, a reading that changes every element, the first
 -- that passes.
 use Prim.Native.Nat.{ℕ, zero, suc, _-_, _<_}
-use mathlib.Core.Path.{_≡_, refl, sym, ap, _∙_}
+use mathlib.Core.Path.{_≡_, refl, sym, ap, ap₂, _∙_}
 use mathlib.Core.List.{List, [], _∷_, _++_, map}
-use mathlib.Core.Bool.{Bool, true, cond}
-use mathlib.Core.Option.{Option, some}
+use mathlib.Core.Bool.{Bool, true, false, cond}
+use mathlib.Core.Option.{Option, none, some}
 use native.Mathlib.Nat.{not-suc-le-zero, le-of-suc-le-suc}
 use lib.ListN.{length, set, getD, replicate, length-set}
 use lib.Seq.{set-append-left}
@@ -27,16 +27,23 @@ padded-at {A} n z l p = go l p (n - length l)
     go (x ∷ l) zero k = refl
     go (x ∷ l) (suc p) k = go l p k
 
+-- padding that does not pass is never the first
+pub first-padded : {A : Type 0} (p : A → Bool) (n : ℕ) (z : A) (l : List A) → p z ≡ false → firstWith p (padded n z l) ≡ firstWith p l
+first-padded {A} p n z l e = go l (n - length l)
+  where
+    zeros : (k : ℕ) → firstWith p (replicate k z) ≡ none
+    zeros zero = refl
+    zeros (suc k) = ap₂ (λ (b : Bool) (o : Option ℕ). cond b (some 0) (later o)) e (zeros k)
+
+    go : (l : List A) (k : ℕ) → firstWith p (l ++ replicate k z) ≡ firstWith p l
+    go [] k = zeros k
+    go (x ∷ l) k = ap (λ (o : Option ℕ). cond (p x) (some 0) (later o)) (go l k)
+
 pub all-at : {A : Type 0} (p : A → Bool) (d : A) (l : List A) (i : ℕ) → all p l ≡ true → i < length l → p (getD l i d) ≡ true
 all-at p d [] i e h = absurd (not-suc-le-zero h)
 all-at p d (x ∷ xs) zero e h = and-both (p x) (all p xs) e .0
 all-at p d (x ∷ xs) (suc i) e h = all-at p d xs i (and-both (p x) (all p xs) e .1) (le-of-suc-le-suc h)
 
-module _ {A B : Type 0} where
-  pub map-append : (f : A → B) (xs ys : List A) → map f (xs ++ ys) ≡ map f xs ++ map f ys
-  map-append f [] ys = refl
-  map-append f (x ∷ xs) ys = ap (λ (r : List B). f x ∷ r) (map-append f xs ys)
-
-  pub first-map : (f : A → B) (p : B → Bool) (l : List A) → firstWith p (map f l) ≡ firstWith (λ (x : A). p (f x)) l
-  first-map f p [] = refl
-  first-map f p (x ∷ xs) = ap (λ (o : Option ℕ). cond (p (f x)) (some 0) (later o)) (first-map f p xs)
+pub first-map : {A B : Type 0} (f : A → B) (p : B → Bool) (l : List A) → firstWith p (map f l) ≡ firstWith (λ (x : A). p (f x)) l
+first-map f p [] = refl
+first-map f p (x ∷ xs) = ap (λ (o : Option ℕ). cond (p (f x)) (some 0) (later o)) (first-map f p xs)

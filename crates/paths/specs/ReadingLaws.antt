@@ -1,13 +1,13 @@
 -- Reading and building are inverse: a well-formed state is the one that its view stands for, and every table is the view of its state.
 use Prim.Native.Nat.{ℕ, _+_, _≤_, _<_}
 use mathlib.Core.Path.{_≡_, refl, sym, ap, ap₂, _∙_, subst}
-use mathlib.Core.List.{List, [], _∷_, _++_, map}
+use mathlib.Core.List.{List, [], _∷_, _++_, map, map-append}
 use mathlib.Core.Bool.{true}
 use native.Mathlib.Omega.{arith}
 use lib.ListN.{length, take, set, getD, length-append, length-map, length-set, List·getD-map}
 use lib.Seq.{getD-take}
 use Rattle.lists.specs.Defs.{all, padded}
-use Rattle.lists.specs.Held.{take-padded, Held, held-length, held-count, held-push, held-of, getD-in}
+use Rattle.lists.specs.Held.{take-padded, padded-push, Held, held-length, held-count, held-of, getD-in}
 use Rattle.lists.specs.Maps.{map-set, map-is}
 use Rattle.values.specs.Limits.{maxPaths}
 use Rattle.paths_rules.specs.Path.{Path, zeroPath}
@@ -18,7 +18,7 @@ use Rattle.paths_state.specs.declared.state.Paths.{Paths}
 use Rattle.path.specs.Reading.{pathView, pathOf}
 use Rattle.path.specs.ReadingLaws.{path-of, path-is}
 use Rattle.paths.specs.Reading.{view, putPaths, pathsOf}
-use Rattle.paths.specs.Lists.{set-padded, all-at, map-append}
+use Rattle.paths.specs.Lists.{set-padded, all-at}
 use Rattle.paths_state.specs.declared.state.Path as S
 use Rattle.paths_state.specs.Formed as F
 
@@ -45,6 +45,30 @@ live-of v = ap (λ (n : ℕ). take n (padded maxPaths F.zeroPath (map pathOf (v 
 pub view-of : (v : Table) → view (pathsOf v) ≡ v
 view-of v = λ i. record { paths = (ap (map pathView) (live-of v) ∙ paths-of (v .paths)) i; limit = v .limit; factor = v .factor; multipath = v .multipath; server = v .server }
 
+-- a state with other paths, which stand for those of a table
+pub put-is : (t : Paths) (l : List Path) (items : List S.Path) (n : ℕ) → items ≡ padded maxPaths F.zeroPath (map pathOf l) → n ≡ length l → putPaths items n t ≡ pathsOf (withPaths l (view t))
+put-is t l items n e q = λ i. record { items = e i; count = q i; «max_paths» = t .«max_paths»; «anti_ampl_factor» = t .«anti_ampl_factor»; «is_multipath» = t .«is_multipath»; «is_server» = t .«is_server» }
+
+-- in the one state of a table a path is stored, or goes to the end
+module _ (v : Table) (y : S.Path) (z : Path) (e : y ≡ pathOf z) where
+  abbrev p : List S.Path
+  p = map pathOf (v .paths)
+
+  long : length p ≡ length (v .paths)
+  long = length-map (v .paths) pathOf
+
+  pub stored-of : (i : ℕ) → i < length (v .paths) → putPaths (set (pathsOf v .items) i y) (length (v .paths)) (pathsOf v) ≡ pathsOf (withPaths (set (v .paths) i z) v)
+  stored-of i h =
+      put-is (pathsOf v) (set (v .paths) i z) (set (pathsOf v .items) i y) (length (v .paths))
+      (ap (set (pathsOf v .items) i) e ∙ set-padded maxPaths F.zeroPath p i (pathOf z) (omega (arith, long)) ∙ ap (padded maxPaths F.zeroPath) (sym (map-set pathOf (v .paths) i z)))
+      (sym (length-set (v .paths) i z))
+
+  pub pushed-of : (n : ℕ) → n ≡ length (v .paths) → n < maxPaths → putPaths (set (pathsOf v .items) n y) (n + 1) (pathsOf v) ≡ pathsOf (withPaths (v .paths ++ (z ∷ [])) v)
+  pushed-of n q h =
+      put-is (pathsOf v) (v .paths ++ (z ∷ [])) (set (pathsOf v .items) n y) (n + 1)
+      (ap₂ (set (pathsOf v .items)) (q ∙ sym long) e ∙ padded-push maxPaths F.zeroPath p (pathOf z) (omega (arith, q, long)) ∙ ap (padded maxPaths F.zeroPath) (sym (map-append pathOf (v .paths) (z ∷ []))))
+      (omega (arith, q, length-append (v .paths) (z ∷ [])))
+
 module _ (t : Paths) (w : Tidy t) where
   pub live-long : length (live t) ≡ t .count
   live-long = held-count (w .held)
@@ -58,15 +82,11 @@ module _ (t : Paths) (w : Tidy t) where
   pub paths-back : map pathOf (view t .paths) ≡ live t
   paths-back = map-is F.pathFormed pathView pathOf path-is (live t) (w .each)
 
-  -- the state with other paths, which stand for those of a table
-  pub put-is : (l : List Path) (items : List S.Path) (n : ℕ) → items ≡ padded maxPaths F.zeroPath (map pathOf l) → n ≡ length l → putPaths items n t ≡ pathsOf (withPaths l (view t))
-  put-is l items n e q = λ i. record { items = e i; count = q i; «max_paths» = t .«max_paths»; «anti_ampl_factor» = t .«anti_ampl_factor»; «is_multipath» = t .«is_multipath»; «is_server» = t .«is_server» }
-
   pub items-is : t .items ≡ padded maxPaths F.zeroPath (map pathOf (view t .paths))
   items-is = w .held .is ∙ ap (padded maxPaths F.zeroPath) (sym paths-back)
 
   pub view-is : pathsOf (view t) ≡ t
-  view-is = sym (put-is (view t .paths) (t .items) (t .count) items-is (sym paths-long))
+  view-is = sym (put-is t (view t .paths) (t .items) (t .count) items-is (sym paths-long))
 
   -- ---- one path
 
@@ -85,23 +105,7 @@ module _ (t : Paths) (w : Tidy t) where
 
   -- a path is stored
   pub stored-is : (i : ℕ) (y : S.Path) (z : Path) → i < t .count → y ≡ pathOf z → putPaths (set (t .items) i y) (t .count) t ≡ pathsOf (withPaths (set (view t .paths) i z) (view t))
-  stored-is i y z h e = put-is (set (view t .paths) i z) (set (t .items) i y) (t .count) items (sym (length-set (view t .paths) i z ∙ paths-long))
-    where
-      p : List S.Path
-      p = map pathOf (view t .paths)
-
-      h′ : i < length p
-      h′ = omega (arith, length-map (view t .paths) pathOf, paths-long)
-
-      items : set (t .items) i y ≡ padded maxPaths F.zeroPath (map pathOf (set (view t .paths) i z))
-      items = ap₂ (λ (l : List S.Path) (x : S.Path). set l i x) items-is e ∙ set-padded maxPaths F.zeroPath p i (pathOf z) h′ ∙ ap (padded maxPaths F.zeroPath) (sym (map-set pathOf (view t .paths) i z))
-
-  -- a path goes to the end
-  pub pushed-is : (y : S.Path) (z : Path) → t .count < maxPaths → y ≡ pathOf z → putPaths (set (t .items) (t .count) y) (t .count + 1) t ≡ pathsOf (withPaths (view t .paths ++ (z ∷ [])) (view t))
-  pushed-is y z h e = put-is (view t .paths ++ (z ∷ [])) (set (t .items) (t .count) y) (t .count + 1) items (omega (arith, length-append (view t .paths) (z ∷ []), paths-long))
-    where
-      items : set (t .items) (t .count) y ≡ padded maxPaths F.zeroPath (map pathOf (view t .paths ++ (z ∷ [])))
-      items = held-push (w .held) y h ∙ ap₂ (λ (l : List S.Path) (x : S.Path). padded maxPaths F.zeroPath (l ++ (x ∷ []))) (sym paths-back) e ∙ ap (padded maxPaths F.zeroPath) (sym (map-append pathOf (view t .paths) (z ∷ [])))
+  stored-is i y z h e = ap (λ (u : Paths). putPaths (set (u .items) i y) (u .count) u) (sym view-is) ∙ stored-of (view t) y z e i (omega (arith, paths-long))
 
 -- ---- a state that is known by its table
 

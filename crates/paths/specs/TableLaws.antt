@@ -1,33 +1,34 @@
 -- All paths of a table: a search, a change of each in a loop, the least deadline, insertion.
 use Prim.Native.Nat.{ℕ, _+_, _-_, _≤_, _<_, min}
-use mathlib.Core.Path.{_≡_, refl, sym, ap, ap₂, _∙_, subst}
-use mathlib.Core.List.{List, [], _∷_, _++_, map, append-nil}
+use mathlib.Core.Path.{_≡_, refl, sym, ap, ap₂, _∙_}
+use mathlib.Core.List.{List, [], _∷_, _++_, map, map-append, map-map, append-nil}
 use mathlib.Core.Bool.{Bool, true, false, not, cond, _&&_, _||_}
 use mathlib.Core.Option.{Option, none, some}
 use native.Mathlib.Omega.{arith}
 use native.Mathlib.Numerals.{add-one}
 use lib.Dec.{leb}
 use lib.ListN.{length, take, drop, set, getD, replicate, length-map, List·getD-map}
-use lib.Seq.{getD-take, take-suc, take-all, drop-at}
+use lib.Seq.{getD-take, take-suc, take-all, drop-at, set-getD}
 use borrow.Author.Tests.{leb-true, leb-false}
-use Rattle.lists.specs.Defs.{all, firstWith, somes, less, least, padded, over}
-use Rattle.lists.specs.Bools.{and-both}
+use Rattle.lists.specs.Defs.{firstWith, somes, less, least, padded, over}
 use Rattle.lists.specs.Search.{first-hit, first-more, least-snoc}
-use Rattle.lists.specs.Held.{over-more}
+use Rattle.lists.specs.Held.{over-more, getD-over}
 use Rattle.lists.specs.Maps.{somes-append}
 use Rattle.values.specs.Limits.{maxPaths}
+use Rattle.values.specs.Address.{samePair}
 use Rattle.values.specs.Time.{deadlineOf}
 use Rattle.values.specs.declared.address.FourTuple.{FourTuple}
 use Rattle.values.specs.declared.time.Deadline.{Deadline}
 use Rattle.paths_rules.specs.Path.{Path, newPath, unlist, due}
-use Rattle.paths_rules.specs.Table.{Table, pathAt, withPaths, onAll, appended, replaced, timer}
+use Rattle.paths_rules.specs.Table.{pathAt, withPaths, onAll, appended, replaced, timer}
 use Rattle.paths_state.specs.Formed.{live}
 use Rattle.paths_state.specs.declared.state.Paths.{Paths}
 use Rattle.path.specs.Reading.{pathView, pathOf}
-use Rattle.path.specs.ReadingLaws.{path-is}
+use Rattle.path.specs.Puts.{putListed}
+use Rattle.path.specs.FieldLaws.{back, unlisted-is}
 use Rattle.paths.specs.Reading.{view, putPaths, pathsOf}
-use Rattle.paths.specs.Lists.{map-append, first-map}
-use Rattle.paths.specs.ReadingLaws.{Tidy, view-of, live-long, items-long, paths-long, put-is, stored-is, pushed-is, tidy-of}
+use Rattle.paths.specs.Lists.{first-map, first-padded}
+use Rattle.paths.specs.ReadingLaws.{Tidy, live-long, items-long, paths-long, put-is, formed-at, stored-of, pushed-of}
 use Rattle.paths_state.specs.declared.state.Path as S
 use Rattle.paths_state.specs.Formed as F
 
@@ -40,6 +41,12 @@ module _ (t : Paths) (w : Tidy t) (p : Path → Bool) where
   pub found-is : (d : S.Path) (i : ℕ) → i < t .count → firstWith (passes p) (take i (t .items)) ≡ none → p (pathView (getD (t .items) i d)) ≡ true → firstWith p (view t .paths) ≡ some i
   found-is d i h e y = first-map pathView p (live t) ∙ first-hit (passes p) d (t .items) (t .count) i h (omega (arith, items-long t w, w .held .few)) e y
 
+  -- in all places at once: the zero paths past the last one do not pass
+  pub found-all : p (pathView F.zeroPath) ≡ false → firstWith p (view t .paths) ≡ firstWith (passes p) (take maxPaths (t .items))
+  found-all z =
+      first-map pathView p (live t) ∙ sym (first-padded (passes p) maxPaths F.zeroPath (live t) z)
+      ∙ ap (firstWith (passes p)) (sym (w .held .is) ∙ sym (take-all maxPaths (t .items) (omega (arith, items-long t w))))
+
   pub found-more : (d : S.Path) (i : ℕ) → i < t .count → firstWith (passes p) (take i (t .items)) ≡ none → p (pathView (getD (t .items) i d)) ≡ false → firstWith (passes p) (take (i + 1) (t .items)) ≡ none
   found-more d i h e n = first-more (passes p) d (t .items) i (omega (arith, items-long t w, w .held .few)) e n
 
@@ -48,35 +55,68 @@ module _ (t : Paths) (w : Tidy t) (p : Path → Bool) where
 
 -- ---- every path is changed
 
-map-twice : (f : Path → Path) (l : List S.Path) → map (λ (x : S.Path). pathOf (f (pathView x))) l ≡ map pathOf (map f (map pathView l))
-map-twice f [] = refl
-map-twice f (x ∷ l) = ap (λ (r : List S.Path). pathOf (f (pathView x)) ∷ r) (map-twice f l)
-
 -- the paths as they are to be
 abbrev pub made : (Path → Path) → Paths → List S.Path
 made f t = map (λ (x : S.Path). pathOf (f (pathView x))) (live t)
+
+-- the state when the loop has come to i: up to there the paths are changed, and from there on they stand as they did
+abbrev pub Turned : (Path → Path) → Paths → ℕ → Paths → Type 0
+Turned f t i u = u ≡ putPaths (over (made f t) (t .items) i) (t .count) t
 
 module _ (t : Paths) (w : Tidy t) (f : Path → Path) where
   made-long : length (made f t) ≡ t .count
   made-long = length-map (live t) (λ (x : S.Path). pathOf (f (pathView x))) ∙ live-long t w
 
-  pub each-more : (d : S.Path) (i : ℕ) (y : S.Path) (u : Paths) → i < t .count → y ≡ pathOf (f (pathView (getD (t .items) i d))) → u ≡ putPaths (over (made f t) (t .items) i) (t .count) t
-      → putPaths (set (u .items) i y) (u .count) u ≡ putPaths (over (made f t) (t .items) (i + 1)) (t .count) t
-  each-more d i y u h e q =
-      let g : S.Path → S.Path = λ x. pathOf (f (pathView x)) in
-      ap₂ (λ (v : Paths) (x : S.Path). putPaths (set (v .items) i x) (v .count) v) q (e ∙ ap g (sym (getD-take (t .count) (t .items) i d h)) ∙ sym (List·getD-map g (live t) i d))
-      ∙ ap (λ (l : List S.Path). putPaths l (t .count) t) (over-more (g d) (made f t) (t .items) i (omega (arith, made-long)) (omega (arith, items-long t w, w .held .few)))
+  module _ (d : S.Path) (i : ℕ) (u : Paths) (h : i < t .count) (q : Turned f t i u) where
+    each-at : getD (u .items) i d ≡ getD (t .items) i d
+    each-at = ap (λ (v : Paths). getD (v .items) i d) q ∙ getD-over d (made f t) (t .items) i i (omega arith) (omega (arith, made-long)) (omega (arith, items-long t w, w .held .few))
+
+    pub each-formed : F.pathFormed (getD (u .items) i d) ≡ true
+    each-formed = ap F.pathFormed each-at ∙ formed-at t w d i h
+
+    pub each-more : (y : S.Path) → y ≡ pathOf (f (pathView (getD (u .items) i d))) → Turned f t (i + 1) (putPaths (set (u .items) i y) (u .count) u)
+    each-more y e =
+        let g : S.Path → S.Path = λ x. pathOf (f (pathView x)) in
+        ap₂ (λ (v : Paths) (x : S.Path). putPaths (set (v .items) i x) (v .count) v) q (e ∙ ap g (each-at ∙ sym (getD-take (t .count) (t .items) i d h)) ∙ sym (List·getD-map g (live t) i d))
+        ∙ ap (λ (l : List S.Path). putPaths l (t .count) t) (over-more (g d) (made f t) (t .items) i (omega (arith, made-long)) (omega (arith, items-long t w, w .held .few)))
+
+    -- a path that the change leaves as it is need not be stored
+    pub each-stays : pathOf (f (pathView (getD (u .items) i d))) ≡ getD (u .items) i d → Turned f t (i + 1) u
+    each-stays e = ap (λ (l : List S.Path). putPaths l (u .count) u) (sym (set-getD (u .items) i d)) ∙ each-more (getD (u .items) i d) (sym e)
 
   over-done : over (made f t) (t .items) (t .count) ≡ padded maxPaths F.zeroPath (map pathOf (map f (view t .paths)))
   over-done =
       ap₂ (λ (a b : List S.Path). a ++ b) (take-all (t .count) (made f t) (omega (arith, made-long)))
       (ap (drop (t .count)) (w .held .is) ∙ drop-at (live t) (replicate (maxPaths - length (live t)) F.zeroPath) (t .count) (live-long t w) ∙ ap (λ (n : ℕ). replicate (maxPaths - n) F.zeroPath) (live-long t w ∙ sym made-long))
-      ∙ ap (padded maxPaths F.zeroPath) (map-twice f (live t))
+      ∙ ap (padded maxPaths F.zeroPath) (sym (map-map pathOf f (view t .paths) ∙ map-map (λ (x : Path). pathOf (f x)) pathView (live t)))
 
-  pub each-done : (i : ℕ) (u : Paths) → i ≡ t .count → u ≡ putPaths (over (made f t) (t .items) i) (t .count) t → u ≡ pathsOf (onAll f (view t))
+  pub each-done : (i : ℕ) (u : Paths) → i ≡ t .count → Turned f t i u → u ≡ pathsOf (onAll f (view t))
   each-done i u e q =
       q ∙ ap (λ (n : ℕ). putPaths (over (made f t) (t .items) n) (t .count) t) e
-      ∙ put-is t w (map f (view t .paths)) (over (made f t) (t .items) (t .count)) (t .count) over-done (sym (length-map (view t .paths) f ∙ paths-long t w))
+      ∙ put-is t (map f (view t .paths)) (over (made f t) (t .items) (t .count)) (t .count) over-done (sym (length-map (view t .paths) f ∙ paths-long t w))
+
+-- a loop that goes over n paths: all, or none where the change is not to be made
+module _ (t : Paths) (ok : Bool) (w : ok ≡ true → Tidy t) (n : ℕ) (e : n ≡ cond ok (t .count) 0) where
+  pub few : n ≤ maxPaths
+  few = go ok w e
+    where
+      go : (b : Bool) → (b ≡ true → Tidy t) → n ≡ cond b (t .count) 0 → n ≤ maxPaths
+      go true k q = omega (arith, q, k refl .held .few)
+      go false k q = omega (arith, q)
+
+  pub running : (i : ℕ) → i < n → Tidy t × (i < t .count)
+  running i h = go ok w e
+    where
+      go : (b : Bool) → (b ≡ true → Tidy t) → n ≡ cond b (t .count) 0 → Tidy t × (i < t .count)
+      go true k q = (k refl, omega (arith, h, q))
+      go false k q = absurd (omega (arith, h, q))
+
+  pub ran : (i : ℕ) (f : Path → Path) (u : Paths) → i ≡ n → Turned f t i u → u ≡ cond ok (pathsOf (onAll f (view t))) t
+  ran i f u h g = go ok w e
+    where
+      go : (b : Bool) → (b ≡ true → Tidy t) → n ≡ cond b (t .count) 0 → u ≡ cond b (pathsOf (onAll f (view t))) t
+      go true k q = each-done t (k refl) f i u (h ∙ q) g
+      go false k q = g ∙ ap (λ (m : ℕ). putPaths (over (made f t) (t .items) m) (t .count) t) (h ∙ q)
 
 -- ---- the least deadline
 
@@ -131,36 +171,32 @@ module _ (t : Paths) (w : Tidy t) where
 
 -- ---- insertion
 
--- a path keeps its form when its listing goes
-unlisted-formed : (a : FourTuple) (l : List S.Path) → all F.pathFormed l ≡ true → all F.pathFormed (map pathOf (map (unlist a) (map pathView l))) ≡ true
-unlisted-formed a [] e = refl
-unlisted-formed a (x ∷ l) e =
-    let v = and-both (F.pathFormed x) (all F.pathFormed l) e in
-    ap₂ _&&_ (ap F.pathFormed (path-is x (v .0)) ∙ v .0) (unlisted-formed a l (v .1))
+-- both listings go
+abbrev pub unlistBoth : FourTuple → FourTuple → Path → Path
+unlistBoth a b x = unlist b (unlist a x)
 
-module _ (t : Paths) (w : Tidy t) (a : FourTuple) (u : Paths) (e : u ≡ pathsOf (onAll (unlist a) (view t))) where
-  pub unlisted-tidy : Tidy u
-  unlisted-tidy = subst Tidy (sym e) (tidy-of (onAll (unlist a) (view t)) (omega (arith, length-map (view t .paths) (unlist a), paths-long t w, w .held .few)) (unlisted-formed a (live t) (w .each)))
+-- one more path loses its listing, which is stored in place
+module _ (t : Paths) (w : Tidy t) (d : S.Path) (i : ℕ) (u : Paths) (h : i < t .count) where
+  abbrev x : S.Path
+  x = getD (u .items) i d
 
-  pub unlisted-view : view u ≡ onAll (unlist a) (view t)
-  unlisted-view = ap view e ∙ view-of (onAll (unlist a) (view t))
+  pub unlisted-more : (a : FourTuple) → Turned (unlist a) t i u → (p : Bool) → p ≡ samePair (x .pair) a → Turned (unlist a) t (i + 1) (putPaths (set (u .items) i (putListed (x .listed && not p) x)) (u .count) u)
+  unlisted-more a q p e = each-more t w (unlist a) d i u h q (putListed (x .listed && not p) x) (unlisted-is x (each-formed t w (unlist a) d i u h q) a p e)
 
-  pub unlisted-count : u .count ≡ t .count
-  unlisted-count = ap (λ (v : Paths). v .count) e ∙ length-map (view t .paths) (unlist a) ∙ paths-long t w
+  pub both-more : (a b : FourTuple) → Turned (unlistBoth a b) t i u → (p r : Bool) → p ≡ samePair (x .pair) a → r ≡ samePair (x .pair) b
+      → Turned (unlistBoth a b) t (i + 1) (putPaths (set (u .items) i (putListed (x .listed && not p && not r) x)) (u .count) u)
+  both-more a b q p r e f =
+      each-more t w (unlistBoth a b) d i u h q (putListed (x .listed && not p && not r) x)
+      (ap₂ (λ (c g : Bool). putListed (x .listed && not c && not g) x) e f ∙ ap (putListed (x .listed && not (samePair (x .pair) a) && not (samePair (x .pair) b))) (back x (each-formed t w (unlistBoth a b) d i u h q)))
 
-  pub appended-is : (m : ℕ) → t .count < maxPaths → (x : S.Path) → x ≡ pathOf (newPath a m) → putPaths (set (u .items) (u .count) x) (u .count + 1) u ≡ pathsOf (appended a m (view t))
-  appended-is m h x q = pushed-is u unlisted-tidy x (newPath a m) (omega (arith, unlisted-count)) q ∙ ap (λ (v : Table). pathsOf (withPaths (v .paths ++ (newPath a m ∷ [])) v)) unlisted-view
+module _ (t : Paths) (w : Tidy t) (u : Paths) (a : FourTuple) (m : ℕ) (x : S.Path) (q : x ≡ pathOf (newPath a m)) where
+  pub appended-is : t .count < maxPaths → u ≡ pathsOf (onAll (unlist a) (view t)) → putPaths (set (u .items) (t .count) x) (t .count + 1) u ≡ pathsOf (appended a m (view t))
+  appended-is h e =
+      ap (λ (v : Paths). putPaths (set (v .items) (t .count) x) (t .count + 1) v) e
+      ∙ pushed-of (onAll (unlist a) (view t)) x (newPath a m) q (t .count) (sym (length-map (view t .paths) (unlist a) ∙ paths-long t w)) h
 
-  pub replaced-is : (i m : ℕ) (b : FourTuple) → i < t .count → a ≡ pathAt i (view t) .pair → (v : Paths) → v ≡ pathsOf (onAll (unlist b) (view u)) → (x : S.Path) → x ≡ pathOf (newPath b m)
-      → putPaths (set (v .items) i x) (v .count) v ≡ pathsOf (replaced i b m (view t))
-  replaced-is i m b h ea v ev x q =
-      let g : v ≡ pathsOf (onAll (unlist b) (onAll (unlist a) (view t))) = ev ∙ ap (λ (y : Table). pathsOf (onAll (unlist b) y)) unlisted-view in
-      let gv : view v ≡ onAll (unlist b) (onAll (unlist a) (view t)) = ap view g ∙ view-of (onAll (unlist b) (onAll (unlist a) (view t))) in
-      let gt : Tidy v = second b v ev in
-      let n : v .count ≡ t .count = ap (λ (y : Paths). y .count) g ∙ length-map (map (unlist a) (view t .paths)) (unlist b) ∙ length-map (view t .paths) (unlist a) ∙ paths-long t w in
-      stored-is v gt i x (newPath b m) (omega arith) q
-      ∙ ap (λ (y : Table). pathsOf (withPaths (set (y .paths) i (newPath b m)) y)) gv
-      ∙ ap (λ (p : FourTuple). pathsOf (withPaths (set (map (unlist b) (map (unlist p) (view t .paths))) i (newPath b m)) (view t))) ea
-    where
-      second : (b : FourTuple) (v : Paths) → v ≡ pathsOf (onAll (unlist b) (view u)) → Tidy v
-      second b v ev = subst Tidy (sym ev) (tidy-of (onAll (unlist b) (view u)) (omega (arith, length-map (view u .paths) (unlist b), paths-long u unlisted-tidy, unlisted-tidy .held .few)) (unlisted-formed b (live u) (unlisted-tidy .each)))
+  pub replaced-is : (i : ℕ) (b : FourTuple) → i < t .count → b ≡ pathAt i (view t) .pair → u ≡ pathsOf (onAll (unlistBoth b a) (view t)) → putPaths (set (u .items) i x) (u .count) u ≡ pathsOf (replaced i a m (view t))
+  replaced-is i b h eb e =
+      ap (λ (v : Paths). putPaths (set (v .items) i x) (v .count) v) e
+      ∙ stored-of (onAll (unlistBoth b a) (view t)) x (newPath a m) q i (omega (arith, h, length-map (view t .paths) (unlistBoth b a), paths-long t w))
+      ∙ ap (λ (l : List Path). pathsOf (withPaths (set l i (newPath a m)) (view t))) (sym (map-map (unlist a) (unlist b) (view t .paths)) ∙ ap (λ (p : FourTuple). map (unlist a) (map (unlist p) (view t .paths))) eb)

@@ -1,24 +1,30 @@
 -- Each way through the definitions of fresh, insert_path and mark_ping, as the code makes it.
-use Prim.Native.Nat.{ℕ, _≤_, _<_}
-use mathlib.Core.Path.{_≡_, sym, ap, ap₂, _∙_}
-use mathlib.Core.Bool.{Bool, true, false, cond}
+use Prim.Native.Nat.{_<_, _≤_, ℕ}
+use mathlib.Core.Path.{_∙_, _≡_, ap, ap₂, refl, sym}
+use mathlib.Core.Bool.{Bool, _&&_, cond, false, not, true}
 use mathlib.Core.Option.{Option}
 use native.Mathlib.Omega.{arith}
-use lib.ListN.{length, set, getD}
-use borrow.Author.Tests.{lt-ltb, le-ltb}
-use Rattle.lists.specs.Defs.{given, firstWith}
+use lib.Dec.{ltb}
+use lib.ListN.{getD, length, set}
+use borrow.Author.Tests.{le-ltb, lt-ltb, ltb-false, ltb-true}
+use Rattle.lists.specs.Defs.{firstWith, given}
+use Rattle.lists.specs.Bools.{and-both}
 use Rattle.values.specs.Limits.{maxPaths}
+use Rattle.values.specs.Address.{pairFormed}
 use Rattle.values.specs.declared.address.FourTuple.{FourTuple}
 use Rattle.values.specs.declared.answers.Numbered.{Numbered}
-use Rattle.paths_rules.specs.Path.{Path, withPing, unused, flagged, listedAs}
-use Rattle.paths_rules.specs.Table.{Out, refused, accepted, pathAt, onAll, fresh, zeroTable, freshFormed, freshCall, appended, replaced, evict, insert, pingAt, pingInUse, pingOn, ping, Nothing, Inserted}
+use Rattle.paths_rules.specs.Path.{Path, flagged, listedAs, unused, withPing}
+use Rattle.paths_rules.specs.Table.{Inserted, Nothing, Out, accepted, appended, evict, fresh, freshCall, freshFormed, insert, onAll, pathAt, ping, pingAt, pingInUse, pingOn, refused, replaced, zeroTable}
+use Rattle.paths_rules.specs.Calls.{Insert}
 use Rattle.paths_state.specs.Formed.{wellFormed}
 use Rattle.paths_state.specs.Laws.{facts}
+use Rattle.paths_state.specs.Look.{Seen}
+use Rattle.paths_state.specs.declared.state.Look.{Look}
 use Rattle.paths_state.specs.declared.state.Paths.{Paths}
-use Rattle.path.specs.Reading.{pathView, pathOf}
-use Rattle.paths.specs.Reading.{view, putPaths, pathsOf, numberedAt, doneAt, insertedAt, doneOf, insertedOf}
-use Rattle.paths.specs.ReadingLaws.{tidy, paths-long, view-is, path-at, stored-is}
-use Rattle.paths.specs.CallLaws.{found-some, found-nothing, found-given}
+use Rattle.path.specs.Reading.{pathOf, pathView}
+use Rattle.paths.specs.Reading.{checked, doneAt, doneOf, insertedAt, insertedCall, insertedOf, numberedAt, pathsOf, putPaths, view}
+use Rattle.paths.specs.ReadingLaws.{Tidy, path-at, paths-long, stored-is, tidy, view-is}
+use Rattle.paths.specs.CallLaws.{chosen, found-given, found-nothing, found-some}
 use Rattle.paths_state.specs.declared.state.Path as S
 use Rattle.paths_state.specs.Formed as F
 
@@ -53,8 +59,8 @@ module _ (t : Paths) (w : wellFormed t ≡ true) where
       pub insert-evicts : f .present ≡ true → (u : Paths) → u ≡ pathsOf (replaced (f .number) a m (view t)) → insertedAt 0 (f .number) u ≡ insertedOf (insert a m (view t))
       insert-evicts p u q = ap (insertedAt 0 (f .number)) q ∙ sym (ap insertedOf (at-limit ∙ ap (λ (o : Option ℕ). evict o a m (view t)) (found-some (firstWith unused (view t .paths)) f e p)))
 
-      pub insert-full : f .present ≡ false → insertedAt 5 0 t ≡ insertedOf (insert a m (view t))
-      insert-full p = ap (insertedAt 5 0) (sym (view-is t (tidy t w))) ∙ sym (ap insertedOf (at-limit ∙ ap (λ (o : Option ℕ). evict o a m (view t)) (found-nothing (firstWith unused (view t .paths)) f e p)))
+      pub insert-none : f .present ≡ false → insertedAt 5 0 t ≡ insertedOf (insert a m (view t))
+      insert-none p = ap (insertedAt 5 0) (sym (view-is t (tidy t w))) ∙ sym (ap insertedOf (at-limit ∙ ap (λ (o : Option ℕ). evict o a m (view t)) (found-nothing (firstWith unused (view t .paths)) f e p)))
 
   pub room : t .count < t .«max_paths» → t .count < maxPaths
   room h = omega (arith, facts t w .bounds .limit-most)
@@ -85,3 +91,47 @@ module _ (t : Paths) (w : wellFormed t ≡ true) where
 
     pub ping-first : t .«is_multipath» ≡ false → (f : Numbered) → f ≡ numberedAt 0 (firstWith flagged (view t .paths)) → doneOf (pingAt 2 (given (f .present) (f .number)) (view t)) ≡ doneOf (ping (given has a) (view t))
     ping-first m f e = ap (λ (o : Option ℕ). doneOf (pingAt 2 o (view t))) (found-given (firstWith flagged (view t .paths)) f e) ∙ sym (ap (λ (b : Bool). doneOf (pingWith b has)) m)
+
+-- ---- what was tested chooses
+
+pub tested : {A : Type 0} (x y : A) (ok v : Bool) → ok ≡ v → cond v x y ≡ cond ok x y
+tested x y ok v e = sym (ap (λ (b : Bool). cond b x y) e)
+
+-- a change that is made or not, with its refusal
+pub done-if : (t x u : Paths) (f ok : Bool) → ok ≡ (wellFormed t && f) → (n : ℕ) → n ≡ cond ok 0 1 → u ≡ cond ok x t → doneAt n u ≡ checked t f (doneAt 0 x) (doneAt 1 t)
+done-if t x u f ok e n en eu = ap₂ doneAt en eu ∙ each ok ∙ ap (λ (b : Bool). cond b (doneAt 0 x) (doneAt 1 t)) e
+  where
+    each : (b : Bool) → doneAt (cond b 0 1) (cond b x t) ≡ cond b (doneAt 0 x) (doneAt 1 t)
+    each true = refl
+    each false = refl
+
+-- ---- insert_path: k is what the test of the state gave, q what that of the pair did
+
+module _ (t : Paths) (k : Look) (s : Seen t 0 k) (a : FourTuple) (q : Bool) (e : q ≡ pairFormed a) where
+  pub ok-is : (k .formed && q) ≡ (wellFormed t && pairFormed a)
+  ok-is = ap₂ _&&_ (s .formed) e
+
+  pub ok-well : (k .formed && q) ≡ true → wellFormed t ≡ true
+  ok-well h = and-both (wellFormed t) (pairFormed a) (sym ok-is ∙ h) .0
+
+  module _ (h : (k .formed && q && ltb (k .count) (k .«max_paths»)) ≡ true) where
+    below-ok : (k .formed && q) ≡ true
+    below-ok = and-both (k .formed && q) (ltb (k .count) (k .«max_paths»)) h .0
+
+    below : t .count < t .«max_paths»
+    below = omega (arith, ltb-true (k .count) (k .«max_paths») (and-both (k .formed && q) (ltb (k .count) (k .«max_paths»)) h .1), s .count, s .limit)
+
+    pub below-room : Tidy t × (t .count < maxPaths)
+    below-room = (tidy t (ok-well below-ok), room t (ok-well below-ok) below)
+
+    pub insert-0 : (m : ℕ) (u : Paths) → u ≡ pathsOf (appended a m (view t)) → insertedAt 0 (k .count) u ≡ insertedCall t (pairFormed a) (Insert a m)
+    insert-0 m u eu =
+        ap (λ (n : ℕ). insertedAt 0 n u) (s .count) ∙ insert-below t (ok-well below-ok) a m below u eu
+        ∙ chosen t (pairFormed a) (insertedOf (insert a m (view t))) (insertedAt 1 0 t) true (sym ok-is ∙ below-ok)
+
+  pub at-full : (k .formed && q && ltb (k .count) (k .«max_paths»)) ≡ false → (k .formed && q) ≡ true → (wellFormed t ≡ true) × (t .«max_paths» ≤ t .count)
+  at-full h g =
+      (ok-well g, omega (arith, ltb-false (k .count) (k .«max_paths») (sym (ap (λ (b : Bool). b && ltb (k .count) (k .«max_paths»)) g) ∙ h), s .count, s .limit))
+
+  pub insert-rest : (m : ℕ) → cond (k .formed && q) (insertedOf (insert a m (view t))) (insertedAt 1 0 t) ≡ insertedCall t (pairFormed a) (Insert a m)
+  insert-rest m = ap (λ (b : Bool). cond b (insertedOf (insert a m (view t))) (insertedAt 1 0 t)) ok-is

@@ -62,3 +62,25 @@ pub struct RespondedOut {
     pub paths: Paths,
     pub answer: RespondedAnswer,
 }
+
+// What a call on one path leaves: the path at the place, and all else as it was. Where nothing changes, it is the path that stands there.
+#[repr(C)]
+pub struct Placed {
+    pub path: Path,
+    pub place: usize,
+    pub answer: Done,
+}
+
+#[repr(C)]
+pub struct PlacedNumber {
+    pub path: Path,
+    pub place: usize,
+    pub answer: Numbered,
+}
+
+#[repr(C)]
+pub struct PlacedResponse {
+    pub path: Path,
+    pub place: usize,
+    pub answer: RespondedAnswer,
+}

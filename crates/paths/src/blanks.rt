@@ -1,19 +1,13 @@
 // Results that hold nothing beside the refusal.
 ghost use mathlib.Core.Path.{_≡_};
-ghost use mathlib.Core.List.{[]};
 ghost use mathlib.Core.Bool.{false};
 ghost use mathlib.Core.Option.{none};
-ghost use Rattle.challenges.specs.Challenges.{spansOf};
 ghost use Rattle.paths_rules.specs.Path as R;
-ghost use Rattle.paths.specs.Reading.{countedAt, doneAt, flaggedAt, foundAt, insertedAt, numberedAt, pathAnswerAt, poppedAt, respondedAt, timedAt};
+ghost use Rattle.paths.specs.Reading.{countedAt, doneAt, flaggedAt, foundAt, insertedAt, numberedAt, pathAnswerAt, timedAt};
 use crate::answers::DoneOut;
 use crate::answers::FoundAnswer;
 use crate::answers::InsertedOut;
 use crate::answers::PathAnswer;
-use crate::answers::PoppedOut;
-use crate::answers::RespondedAnswer;
-use crate::answers::RespondedOut;
-use challenges::Spans;
 use paths_state::Paths;
 use values::Counted;
 use values::Deadline;
@@ -21,7 +15,6 @@ use values::Done;
 use values::Flagged;
 use values::Moment;
 use values::Numbered;
-use values::Span;
 use values::Timed;
 
 pub fn done(t: Paths, n: u8) -> DoneOut
@@ -41,42 +34,6 @@ pub fn inserted(t: Paths, n: u8, id: u64) -> InsertedOut
         answer: Counted {
             refusal: n,
             number: id,
-        },
-    }
-}
-
-pub fn none_popped(t: Paths, n: u8) -> PoppedOut
-    ensures { λ r. ⌜ r ≡ poppedAt n none t ⌝ }
-{
-    PoppedOut {
-        paths: t,
-        answer: Numbered {
-            refusal: n,
-            present: false,
-            number: 0,
-        },
-    }
-}
-
-fn no_spans() -> Spans
-    ensures { λ r. ⌜ r ≡ spansOf [] ⌝ }
-{
-    Spans {
-        items: [Span { us: 0 }; 16],
-        count: 0,
-    }
-}
-
-pub fn not_responded(t: Paths, n: u8) -> RespondedOut
-    ensures { λ r. ⌜ r ≡ respondedAt n false [] t ⌝ }
-{
-    let s = no_spans();
-    RespondedOut {
-        paths: t,
-        answer: RespondedAnswer {
-            refusal: n,
-            yes: false,
-            spans: s,
         },
     }
 }

@@ -10,13 +10,13 @@ ghost use Rattle.paths_state.specs.Formed.{seqFormed};
 ghost use Rattle.paths_rules.specs.Calls as C;
 ghost use Rattle.paths_rules.specs.Table as T;
 ghost use Rattle.paths.specs.Reading.{addressCall, countedCall, doneCall, doneOf, flaggedCall, foundCall, insertedCall, numberedCall, optionalPair, pathCall, poppedCall, respondedCall, timedCall};
+use crate::acts;
 use crate::answers::AddressAnswer;
 use crate::answers::DoneOut;
 use crate::answers::FoundAnswer;
 use crate::answers::InsertedOut;
 use crate::answers::PathAnswer;
 use crate::answers::PoppedOut;
-use crate::answers::RespondedAnswer;
 use crate::answers::RespondedOut;
 use crate::blanks;
 use crate::changes;
@@ -57,23 +57,25 @@ pub fn fresh(
 pub fn insert_path(t: Paths, pair: FourTuple, max_datagram_size: u64) -> InsertedOut
     ensures { λ r. ⌜ r ≡ insertedCall t (pairFormed pair) (C.Insert pair «max_datagram_size») ⌝ }
 {
-    let f = paths_state::formed(t);
-    let p = values::pair_formed(pair);
-    if f & p {
-        changes::insert_step(t, pair, max_datagram_size)
-    } else {
-        blanks::inserted(t, MALFORMED, 0)
+    let k = paths_state::look(t, 0);
+    let q = values::pair_formed(pair);
+    let ok = k.formed & q;
+    if ok & (k.count < k.max_paths) {
+        let u = changes::appended(t, pair, max_datagram_size);
+        return blanks::inserted(u, ACCEPTED, k.count);
     }
+    changes::insert_full(t, ok, pair, max_datagram_size)
 }
 
 // How many paths there are.
 pub fn len(t: Paths) -> Counted
     ensures { λ r. ⌜ r ≡ countedCall t true (C.Ask C.Len) ⌝ }
 {
-    if paths_state::formed(t) {
+    let k = paths_state::look(t, 0);
+    if k.formed {
         Counted {
             refusal: ACCEPTED,
-            number: t.count as u64,
+            number: k.count,
         }
     } else {
         blanks::no_count(MALFORMED)
@@ -84,11 +86,16 @@ pub fn len(t: Paths) -> Counted
 pub fn get(t: Paths, id: u64) -> PathAnswer
     ensures { λ r. ⌜ r ≡ pathCall t true (C.On id (C.Look C.Get)) ⌝ }
 {
-    if paths_state::formed(t) {
-        steps::at(t, id)
-    } else {
-        blanks::no_answer(MALFORMED)
+    let k = paths_state::look(t, id);
+    let n = acts::refusal(k.formed, id, k.count);
+    if n == ACCEPTED {
+        let x = k.path;
+        return PathAnswer {
+            refusal: ACCEPTED,
+            path: x,
+        };
     }
+    blanks::no_answer(n)
 }
 
 // The id of the path that is listed with the pair.
@@ -189,128 +196,86 @@ pub fn path_chal_initiated(t: Paths, id: u64) -> Flagged
 pub fn need_send_validation_frames(t: Paths, id: u64) -> Flagged
     ensures { λ r. ⌜ r ≡ flaggedCall t true (C.On id (C.Look C.NeedsFrames)) ⌝ }
 {
-    let a = get(t, id);
-    let x = a.path;
-    if a.refusal == ACCEPTED {
-        let b = path::needs_frames(x, t.is_server);
+    let k = paths_state::look(t, id);
+    let n = acts::refusal(k.formed, id, k.count);
+    if n == ACCEPTED {
+        let x = k.path;
+        let b = path::needs_frames(x, k.is_server);
         return Flagged {
             refusal: ACCEPTED,
             flag: b,
         };
     }
-    blanks::no_flag(a.refusal)
+    blanks::no_flag(n)
 }
 
 // Whether packets on the path are to be expanded. Of a refusal's zero path nothing is said.
 pub fn need_expand_padding_frames(t: Paths, id: u64) -> Flagged
     ensures { λ r. ⌜ r ≡ flaggedCall t true (C.On id (C.Look C.NeedsPadding)) ⌝ }
 {
-    let a = get(t, id);
-    let x = a.path;
-    let b = path::needs_padding(x, t.is_server);
-    Flagged {
-        refusal: a.refusal,
-        flag: (a.refusal == ACCEPTED) & b,
+    let k = paths_state::look(t, id);
+    let n = acts::refusal(k.formed, id, k.count);
+    if n == ACCEPTED {
+        let x = k.path;
+        let b = path::needs_padding(x, k.is_server);
+        return Flagged {
+            refusal: ACCEPTED,
+            flag: b,
+        };
     }
+    blanks::no_flag(n)
 }
 
 // A challenge is asked for.
 pub fn initiate_path_chal(t: Paths, id: u64) -> DoneOut
     ensures { λ r. ⌜ r ≡ doneCall t true (C.On id C.Initiate) ⌝ }
 {
-    let a = get(t, id);
-    if a.refusal == ACCEPTED {
-        let x = a.path;
-        let y = path::initiated(x);
-        let u = steps::stored(t, id, y);
-        return blanks::done(u, ACCEPTED);
-    }
-    blanks::done(t, a.refusal)
+    let p = acts::initiate_path_chal_at(t, id);
+    steps::put(t, p)
 }
 
 // The oldest challenge received is taken out: the answer is its data.
 pub fn pop_recv_chal(t: Paths, id: u64) -> PoppedOut
     ensures { λ r. ⌜ r ≡ poppedCall t true (C.On id C.Pop) ⌝ }
 {
-    let a = get(t, id);
-    if a.refusal == ACCEPTED {
-        let x = a.path;
-        let w = path::waiting_front(x);
-        let y = path::popped(x);
-        let u = steps::stored(t, id, y);
-        return PoppedOut {
-            paths: u,
-            answer: Numbered {
-                refusal: ACCEPTED,
-                present: w.present,
-                number: w.data,
-            },
-        };
+    let p = acts::pop_recv_chal_at(t, id);
+    let x = p.path;
+    let u = steps::stored(t, p.place, x);
+    let a = p.answer;
+    PoppedOut {
+        paths: u,
+        answer: a,
     }
-    blanks::none_popped(t, a.refusal)
 }
 
 // A PATH_CHALLENGE frame came.
 pub fn on_path_chal_received(t: Paths, id: u64, data: u64) -> DoneOut
     ensures { λ r. ⌜ r ≡ doneCall t true (C.On id (C.Receive «data»)) ⌝ }
 {
-    let a = get(t, id);
-    if a.refusal == ACCEPTED {
-        let x = a.path;
-        let y = path::received(x, data);
-        let u = steps::stored(t, id, y);
-        return blanks::done(u, ACCEPTED);
-    }
-    let n = steps::excused(a.refusal);
-    blanks::done(t, n)
+    let p = acts::on_path_chal_received_at(t, id, data);
+    steps::put(t, p)
 }
 
 // A PATH_CHALLENGE frame was sent in a packet of that size.
 pub fn on_path_chal_sent(t: Paths, id: u64, data: u64, size: u64, sent: Moment) -> DoneOut
     ensures { λ r. ⌜ r ≡ doneCall t (momentFormed (sent .us)) (C.On id (C.Send «data» size (sent .us))) ⌝ }
 {
-    if values::moment_formed(sent) {
-        let a = get(t, id);
-        if a.refusal == ACCEPTED {
-            let x = a.path;
-            let n = path::send_refusal(x, sent);
-            if n == ACCEPTED {
-                let y = path::sent(x, data, size, sent);
-                let u = steps::stored(t, id, y);
-                return blanks::done(u, ACCEPTED);
-            }
-            return blanks::done(t, n);
-        }
-        return blanks::done(t, a.refusal);
-    }
-    blanks::done(t, MALFORMED)
+    let p = acts::on_path_chal_sent_at(t, id, data, size, sent);
+    steps::put(t, p)
 }
 
 // A PATH_RESPONSE frame came: the answer is whether the path is now Validated, and a span for each challenge that it matched.
 pub fn on_path_resp_received(t: Paths, id: u64, data: u64, now: Moment) -> RespondedOut
     ensures { λ r. ⌜ r ≡ respondedCall t (momentFormed (now .us)) (C.On id (C.Respond «data» (now .us))) ⌝ }
 {
-    if values::moment_formed(now) {
-        let a = get(t, id);
-        if a.refusal == ACCEPTED {
-            let x = a.path;
-            let b = path::validates(x, data);
-            let s = path::matched(x, data, now);
-            let y = path::responded(x, data, t.is_multipath);
-            let u = steps::stored(t, id, y);
-            return RespondedOut {
-                paths: u,
-                answer: RespondedAnswer {
-                    refusal: ACCEPTED,
-                    yes: b,
-                    spans: s,
-                },
-            };
-        }
-        let n = steps::excused(a.refusal);
-        return blanks::not_responded(t, n);
+    let p = acts::on_path_resp_received_at(t, id, data, now);
+    let x = p.path;
+    let u = steps::stored(t, p.place, x);
+    let a = p.answer;
+    RespondedOut {
+        paths: u,
+        answer: a,
     }
-    blanks::not_responded(t, MALFORMED)
 }
 
 // Challenges that are due count as lost, on every path that is being validated.
@@ -319,12 +284,10 @@ pub fn on_path_chal_timeout(t: Paths, now: Moment) -> DoneOut
 {
     let f = paths_state::formed(t);
     let m = values::moment_formed(now);
-    if f & m {
-        let u = changes::timed_out_all(t, now);
-        blanks::done(u, ACCEPTED)
-    } else {
-        blanks::done(t, MALFORMED)
-    }
+    let ok = f & m;
+    let u = changes::timed_out_all(t, ok, now);
+    let n = steps::unless(ok);
+    blanks::done(u, n)
 }
 
 // The least front deadline.
@@ -346,46 +309,33 @@ pub fn min_path_chal_timer(t: Paths) -> Timed
 pub fn inc_anti_ampl_limit(t: Paths, id: u64, length: u64) -> DoneOut
     ensures { λ r. ⌜ r ≡ doneCall t true (C.On id (C.Credit length)) ⌝ }
 {
-    let a = get(t, id);
-    if a.refusal == ACCEPTED {
-        let x = a.path;
-        let y = steps::credited(x, t.is_server, t.anti_ampl_factor, length);
-        let u = steps::stored(t, id, y);
-        return blanks::done(u, ACCEPTED);
-    }
-    let n = steps::excused(a.refusal);
-    blanks::done(t, n)
+    let p = acts::inc_anti_ampl_limit_at(t, id, length);
+    steps::put(t, p)
 }
 
 // Bytes were sent: the credit falls by the length.
 pub fn dec_anti_ampl_limit(t: Paths, id: u64, length: u64) -> DoneOut
     ensures { λ r. ⌜ r ≡ doneCall t true (C.On id (C.Charge length)) ⌝ }
 {
-    let a = get(t, id);
-    if a.refusal == ACCEPTED {
-        let x = a.path;
-        let y = steps::charged(x, t.is_server, length);
-        let u = steps::stored(t, id, y);
-        return blanks::done(u, ACCEPTED);
-    }
-    let n = steps::excused(a.refusal);
-    blanks::done(t, n)
+    let p = acts::dec_anti_ampl_limit_at(t, id, length);
+    steps::put(t, p)
 }
 
 // How much of the wish may be sent.
 pub fn cmp_anti_ampl_limit(t: Paths, id: u64, wish: u64) -> Counted
     ensures { λ r. ⌜ r ≡ countedCall t true (C.On id (C.Look (C.Allowed wish))) ⌝ }
 {
-    let a = get(t, id);
-    if a.refusal == ACCEPTED {
-        let x = a.path;
-        let m = path::allowed(x, t.is_server, wish);
+    let k = paths_state::look(t, id);
+    let n = acts::refusal(k.formed, id, k.count);
+    if n == ACCEPTED {
+        let x = k.path;
+        let m = path::allowed(x, k.is_server, wish);
         return Counted {
             refusal: ACCEPTED,
             number: m,
         };
     }
-    steps::wished(a.refusal, wish)
+    steps::wished(n, wish)
 }
 
 // A ping is asked for; an absent pair is zero.
@@ -405,74 +355,40 @@ pub fn mark_ping(t: Paths, has: bool, pair: FourTuple) -> DoneOut
 pub fn enable_multipath(t: Paths) -> DoneOut
     ensures { λ r. ⌜ r ≡ doneCall t true C.Multipath ⌝ }
 {
-    if paths_state::formed(t) {
-        let mut u = t;
-        u.is_multipath = true;
-        blanks::done(u, ACCEPTED)
-    } else {
-        blanks::done(t, MALFORMED)
-    }
+    let k = paths_state::look(t, 0);
+    let n = steps::unless(k.formed);
+    let mut u = t;
+    u.is_multipath = k.is_multipath | k.formed;
+    blanks::done(u, n)
 }
 
 // The source sequence that the path uses, or none: then it is 0.
 pub fn set_scid_seq(t: Paths, id: u64, has: bool, seq: u64) -> DoneOut
     ensures { λ r. ⌜ r ≡ doneCall t (seqFormed has seq) (C.On id (C.SetScid (given has seq))) ⌝ }
 {
-    let ok = has | (seq == 0);
-    if ok {
-        let a = get(t, id);
-        if a.refusal == ACCEPTED {
-            let x = a.path;
-            let y = path::with_scid(x, has, seq);
-            let u = steps::stored(t, id, y);
-            return blanks::done(u, ACCEPTED);
-        }
-        return blanks::done(t, a.refusal);
-    }
-    blanks::done(t, MALFORMED)
+    let p = acts::set_scid_seq_at(t, id, has, seq);
+    steps::put(t, p)
 }
 
 // The destination sequence that the path uses, or none: then it is 0.
 pub fn set_dcid_seq(t: Paths, id: u64, has: bool, seq: u64) -> DoneOut
     ensures { λ r. ⌜ r ≡ doneCall t (seqFormed has seq) (C.On id (C.SetDcid (given has seq))) ⌝ }
 {
-    let ok = has | (seq == 0);
-    if ok {
-        let a = get(t, id);
-        if a.refusal == ACCEPTED {
-            let x = a.path;
-            let y = path::with_dcid(x, has, seq);
-            let u = steps::stored(t, id, y);
-            return blanks::done(u, ACCEPTED);
-        }
-        return blanks::done(t, a.refusal);
-    }
-    blanks::done(t, MALFORMED)
+    let p = acts::set_dcid_seq_at(t, id, has, seq);
+    steps::put(t, p)
 }
 
 pub fn set_active(t: Paths, id: u64, on: bool) -> DoneOut
     ensures { λ r. ⌜ r ≡ doneCall t true (C.On id (C.SetActive on)) ⌝ }
 {
-    let a = get(t, id);
-    if a.refusal == ACCEPTED {
-        let x = a.path;
-        let y = path::with_active(x, on);
-        let u = steps::stored(t, id, y);
-        return blanks::done(u, ACCEPTED);
-    }
-    blanks::done(t, a.refusal)
+    let p = acts::set_active_at(t, id, on);
+    steps::put(t, p)
 }
 
 // The peer's address is verified.
 pub fn mark_verified(t: Paths, id: u64) -> DoneOut
     ensures { λ r. ⌜ r ≡ doneCall t true (C.On id C.Verify) ⌝ }
 {
-    let a = get(t, id);
-    if a.refusal == ACCEPTED {
-        let x = a.path;
-        let y = path::verified(x);
-        let u = steps::stored(t, id, y);
-        return blanks::done(u, ACCEPTED);
-    }
-    blanks::done(t, a.refusal)
+    let p = acts::mark_verified_at(t, id);
+    steps::put(t, p)
 }

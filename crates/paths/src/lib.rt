@@ -1,5 +1,6 @@
 // The paths of a QUIC endpoint, after the Rust's path.rs. calls.rt has the published calls; what a call does to a well-formed state stands in the
 // modules beside it. Every contract is an equation with the definition of `paths_rules` on the view of the state (specs/Reading.antt).
+mod acts;
 mod answers;
 mod blanks;
 mod calls;
@@ -7,11 +8,25 @@ mod changes;
 mod search;
 mod steps;
 
+pub use acts::dec_anti_ampl_limit_at;
+pub use acts::inc_anti_ampl_limit_at;
+pub use acts::initiate_path_chal_at;
+pub use acts::mark_verified_at;
+pub use acts::on_path_chal_received_at;
+pub use acts::on_path_chal_sent_at;
+pub use acts::on_path_resp_received_at;
+pub use acts::pop_recv_chal_at;
+pub use acts::set_active_at;
+pub use acts::set_dcid_seq_at;
+pub use acts::set_scid_seq_at;
 pub use answers::AddressAnswer;
 pub use answers::DoneOut;
 pub use answers::FoundAnswer;
 pub use answers::InsertedOut;
 pub use answers::PathAnswer;
+pub use answers::Placed;
+pub use answers::PlacedNumber;
+pub use answers::PlacedResponse;
 pub use answers::PoppedOut;
 pub use answers::RespondedAnswer;
 pub use answers::RespondedOut;

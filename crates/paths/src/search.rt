@@ -27,14 +27,13 @@ fn place(i: usize) -> Numbered
     }
 }
 
-// With the active flag.
+// With the active flag. Past the last path stands no flag: the loop has a fixed count, which the compiler lays out without a copy of the array.
 pub fn first_flagged(t: Paths) -> Numbered
     requires { ⌜ wellFormed t ≡ true ⌝ }
     ensures { λ r. ⌜ r ≡ numberedAt 0 (firstWith R.flagged (view t .paths)) ⌝ }
 {
-    let count = t.count;
     let mut i: usize = 0;
-    while i < count {
+    while i < 8 {
         let x = t.items[i];
         if x.active {
             return place(i);

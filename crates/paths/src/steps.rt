@@ -1,19 +1,18 @@
 // What the calls are made of: the first state, one path read or stored, and what a server's credit asks.
 ghost use mathlib.Core.Path.{_≡_};
 ghost use mathlib.Core.Bool.{cond, true};
-ghost use Prim.Native.Nat.{_<_, _≤_};
+ghost use Prim.Native.Nat.{_<_};
 ghost use lib.Dec.{eqb};
 ghost use lib.ListN.{set};
 ghost use Rattle.values.specs.Limits.{maxPaths};
-ghost use Rattle.paths_state.specs.Formed.{noAddress, pathFormed, wellFormed};
+ghost use Rattle.paths_state.specs.Formed.{noAddress, wellFormed};
 ghost use Rattle.paths_rules.specs.Calls as C;
-ghost use Rattle.paths_rules.specs.Path as R;
 ghost use Rattle.paths_rules.specs.Table as T;
-ghost use Rattle.path.specs.Reading.{pathOf, pathView};
-ghost use Rattle.paths.specs.Reading.{foundOf, noPair, optionalPair, pathAnswerOf, pathsOf, putPaths, view};
+ghost use Rattle.paths.specs.Reading.{foundOf, noPair, optionalPair, pathsOf, putPaths, view};
 ghost use Rattle.paths.specs.CallLaws.{wishedAt};
+use crate::answers::DoneOut;
 use crate::answers::FoundAnswer;
-use crate::answers::PathAnswer;
+use crate::answers::Placed;
 use crate::blanks;
 use crate::search;
 use paths_state::Path;
@@ -23,6 +22,7 @@ use values::Counted;
 use values::FourTuple;
 use values::refusals::ACCEPTED;
 use values::refusals::INTERNAL_ERROR;
+use values::refusals::MALFORMED;
 
 pub fn wide(x: u8) -> u64
     ensures { λ r. ⌜ r ≡ x ⌝ }
@@ -102,23 +102,6 @@ pub fn first_state(
     }
 }
 
-// The path with the id.
-pub fn at(t: Paths, id: u64) -> PathAnswer
-    requires { ⌜ wellFormed t ≡ true ⌝ }
-    ensures { λ r. ⌜ r ≡ pathAnswerOf (C.step (view t) (C.On id (C.Look C.Get))) ⌝ }
-{
-    let count = t.count as u64;
-    if id < count {
-        let i = id as usize;
-        let x = t.items[i];
-        return PathAnswer {
-            refusal: ACCEPTED,
-            path: x,
-        };
-    }
-    blanks::no_answer(INTERNAL_ERROR)
-}
-
 // The first path with the active flag.
 pub fn active_step(t: Paths) -> FoundAnswer
     requires { ⌜ wellFormed t ≡ true ⌝ }
@@ -138,33 +121,33 @@ pub fn active_step(t: Paths) -> FoundAnswer
     blanks::not_found(INTERNAL_ERROR)
 }
 
-// The state with another path at the id.
-pub fn stored(t: Paths, id: u64, x: Path) -> Paths
-    requires { ⌜ (id < t .count) × (t .count ≤ maxPaths) ⌝ }
-    ensures { λ r. ⌜ r ≡ putPaths (set (t .items) id x) (t .count) t ⌝ }
+// The state with another path at the place.
+pub fn stored(t: Paths, i: usize, x: Path) -> Paths
+    requires { ⌜ i < maxPaths ⌝ }
+    ensures { λ r. ⌜ r ≡ putPaths (set (t .items) i x) (t .count) t ⌝ }
 {
-    let i = id as usize;
     let mut u = t;
     u.items[i] = x;
     u
 }
 
-// Credit acts only on a server.
-pub fn credited(x: Path, server: bool, factor: u64, length: u64) -> Path
-    requires { ⌜ pathFormed x ≡ true ⌝ }
-    ensures { λ r. ⌜ r ≡ pathOf (cond server (R.gain factor length (pathView x)) (pathView x)) ⌝ }
+// What a call on one path leaves, as the whole state.
+pub fn put(t: Paths, p: Placed) -> DoneOut
+    requires { ⌜ p .place < maxPaths ⌝ }
+    ensures { λ r. ⌜ r ≡ record { paths = putPaths (set (t .items) (p .place) (p .path)) (t .count) t; answer = p .answer } ⌝ }
 {
-    if server {
-        path::gained(x, factor, length)
-    } else {
-        x
+    let x = p.path;
+    let u = stored(t, p.place, x);
+    let a = p.answer;
+    DoneOut {
+        paths: u,
+        answer: a,
     }
 }
 
-// So does a charge.
-pub fn charged(x: Path, server: bool, length: u64) -> Path
-    requires { ⌜ pathFormed x ≡ true ⌝ }
-    ensures { λ r. ⌜ r ≡ pathOf (cond server (R.spend length (pathView x)) (pathView x)) ⌝ }
+// What a call answers that asks only for the form of what it is given.
+pub fn unless(formed: bool) -> u8
+    ensures { λ r. ⌜ r ≡ cond formed 0 1 ⌝ }
 {
-    if server { path::spent(x, length) } else { x }
+    if formed { ACCEPTED } else { MALFORMED }
 }

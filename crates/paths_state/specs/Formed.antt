@@ -128,9 +128,13 @@ live t = take (t .count) (t .items)
 abbrev pub bounded : ℕ → ℕ → Bool
 bounded limit count = leb 1 limit && leb limit maxPaths && leb 1 count && leb count limit
 
--- 3 to 9 of the paths, and 10: past them stand zero paths
+-- 3 to 9 of the first n places, and 10: past them stand zero paths
+abbrev pub tableFormedTo : ℕ → Paths → Bool
+tableFormedTo n t = all pathFormed (take n (t .items)) && pairwise apart (take n (t .items)) && past noPath maxPaths n (t .items)
+
+-- of the paths
 abbrev pub tableFormed : Paths → Bool
-tableFormed t = all pathFormed (live t) && pairwise apart (live t) && past noPath maxPaths (t .count) (t .items)
+tableFormed t = tableFormedTo (t .count) t
 
 abbrev pub wellFormed : Paths → Bool
 wellFormed t = bounded (t .«max_paths») (t .count) && tableFormed t

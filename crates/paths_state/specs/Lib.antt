@@ -1,5 +1,6 @@
 pub mod Formed
 pub mod Live
 pub mod Laws
+pub mod Look
 pub mod Conjuncts
 pub mod Examples

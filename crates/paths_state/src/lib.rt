@@ -4,8 +4,10 @@ mod state;
 mod test;
 mod zeros;
 
+pub use state::Look;
 pub use state::Path;
 pub use state::Paths;
 pub use state::no_path;
 pub use state::no_paths;
 pub use test::formed;
+pub use test::look;

@@ -40,6 +40,19 @@ pub struct Paths {
     pub is_server: bool,
 }
 
+// What the test of a state gives: whether it is well formed, and what a call on one path needs of it. `path` stands at `place`, which is the id asked for where
+// a path has it.
+pub struct Look {
+    pub path: Path,
+    pub place: usize,
+    pub count: u64,
+    pub max_paths: u64,
+    pub anti_ampl_factor: u64,
+    pub is_multipath: bool,
+    pub is_server: bool,
+    pub formed: bool,
+}
+
 pub fn no_path() -> Path
     ensures { λ r. ⌜ r ≡ zeroPath ⌝ }
 {

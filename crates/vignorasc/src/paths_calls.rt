@@ -148,8 +148,10 @@ pub extern "C" fn vig_paths_need_expand_padding_frames(t: &Paths, id: u64) -> Fl
 pub extern "C" fn vig_paths_initiate_path_chal(t: &mut Paths, id: u64) -> Done
     ensures { λ r. ⌜ (r ≡ (doneCall (now (t .entry)) true (C.On id C.Initiate)) .answer) × (now (t .exit) ≡ (doneCall (now (t .entry)) true (C.On id C.Initiate)) .paths) ⌝ }
 {
-    let a = paths::initiate_path_chal(*t, id);
-    *t = a.paths;
+    let a = paths::initiate_path_chal_at(*t, id);
+    let i = a.place;
+    let y = a.path;
+    t.items[i] = y;
     a.answer
 }
 
@@ -158,8 +160,10 @@ pub extern "C" fn vig_paths_initiate_path_chal(t: &mut Paths, id: u64) -> Done
 pub extern "C" fn vig_paths_pop_recv_chal(t: &mut Paths, id: u64) -> Numbered
     ensures { λ r. ⌜ (r ≡ (poppedCall (now (t .entry)) true (C.On id C.Pop)) .answer) × (now (t .exit) ≡ (poppedCall (now (t .entry)) true (C.On id C.Pop)) .paths) ⌝ }
 {
-    let a = paths::pop_recv_chal(*t, id);
-    *t = a.paths;
+    let a = paths::pop_recv_chal_at(*t, id);
+    let i = a.place;
+    let y = a.path;
+    t.items[i] = y;
     a.answer
 }
 
@@ -168,8 +172,10 @@ pub extern "C" fn vig_paths_pop_recv_chal(t: &mut Paths, id: u64) -> Numbered
 pub extern "C" fn vig_paths_on_path_chal_received(t: &mut Paths, id: u64, data: u64) -> Done
     ensures { λ r. ⌜ (r ≡ (doneCall (now (t .entry)) true (C.On id (C.Receive «data»))) .answer) × (now (t .exit) ≡ (doneCall (now (t .entry)) true (C.On id (C.Receive «data»))) .paths) ⌝ }
 {
-    let a = paths::on_path_chal_received(*t, id, data);
-    *t = a.paths;
+    let a = paths::on_path_chal_received_at(*t, id, data);
+    let i = a.place;
+    let y = a.path;
+    t.items[i] = y;
     a.answer
 }
 
@@ -184,8 +190,10 @@ pub extern "C" fn vig_paths_on_path_chal_sent(
 ) -> Done
     ensures { λ r. ⌜ (r ≡ (doneCall (now (t .entry)) (momentFormed (sent .us)) (C.On id (C.Send «data» size (sent .us)))) .answer) × (now (t .exit) ≡ (doneCall (now (t .entry)) (momentFormed (sent .us)) (C.On id (C.Send «data» size (sent .us)))) .paths) ⌝ }
 {
-    let a = paths::on_path_chal_sent(*t, id, data, size, sent);
-    *t = a.paths;
+    let a = paths::on_path_chal_sent_at(*t, id, data, size, sent);
+    let i = a.place;
+    let y = a.path;
+    t.items[i] = y;
     a.answer
 }
 
@@ -199,8 +207,10 @@ pub extern "C" fn vig_paths_on_path_resp_received(
 ) -> RespondedAnswer
     ensures { λ r. ⌜ (r ≡ (respondedCall (now (t .entry)) (momentFormed (moment .us)) (C.On id (C.Respond «data» (moment .us)))) .answer) × (now (t .exit) ≡ (respondedCall (now (t .entry)) (momentFormed (moment .us)) (C.On id (C.Respond «data» (moment .us)))) .paths) ⌝ }
 {
-    let a = paths::on_path_resp_received(*t, id, data, moment);
-    *t = a.paths;
+    let a = paths::on_path_resp_received_at(*t, id, data, moment);
+    let i = a.place;
+    let y = a.path;
+    t.items[i] = y;
     a.answer
 }
 
@@ -227,8 +237,10 @@ pub extern "C" fn vig_paths_min_path_chal_timer(t: &Paths) -> Timed
 pub extern "C" fn vig_paths_inc_anti_ampl_limit(t: &mut Paths, id: u64, length: u64) -> Done
     ensures { λ r. ⌜ (r ≡ (doneCall (now (t .entry)) true (C.On id (C.Credit length))) .answer) × (now (t .exit) ≡ (doneCall (now (t .entry)) true (C.On id (C.Credit length))) .paths) ⌝ }
 {
-    let a = paths::inc_anti_ampl_limit(*t, id, length);
-    *t = a.paths;
+    let a = paths::inc_anti_ampl_limit_at(*t, id, length);
+    let i = a.place;
+    let y = a.path;
+    t.items[i] = y;
     a.answer
 }
 
@@ -237,8 +249,10 @@ pub extern "C" fn vig_paths_inc_anti_ampl_limit(t: &mut Paths, id: u64, length: 
 pub extern "C" fn vig_paths_dec_anti_ampl_limit(t: &mut Paths, id: u64, length: u64) -> Done
     ensures { λ r. ⌜ (r ≡ (doneCall (now (t .entry)) true (C.On id (C.Charge length))) .answer) × (now (t .exit) ≡ (doneCall (now (t .entry)) true (C.On id (C.Charge length))) .paths) ⌝ }
 {
-    let a = paths::dec_anti_ampl_limit(*t, id, length);
-    *t = a.paths;
+    let a = paths::dec_anti_ampl_limit_at(*t, id, length);
+    let i = a.place;
+    let y = a.path;
+    t.items[i] = y;
     a.answer
 }
 
@@ -275,8 +289,10 @@ pub extern "C" fn vig_paths_enable_multipath(t: &mut Paths) -> Done
 pub extern "C" fn vig_paths_set_scid_seq(t: &mut Paths, id: u64, has: bool, seq: u64) -> Done
     ensures { λ r. ⌜ (r ≡ (doneCall (now (t .entry)) (seqFormed has seq) (C.On id (C.SetScid (given has seq)))) .answer) × (now (t .exit) ≡ (doneCall (now (t .entry)) (seqFormed has seq) (C.On id (C.SetScid (given has seq)))) .paths) ⌝ }
 {
-    let a = paths::set_scid_seq(*t, id, has, seq);
-    *t = a.paths;
+    let a = paths::set_scid_seq_at(*t, id, has, seq);
+    let i = a.place;
+    let y = a.path;
+    t.items[i] = y;
     a.answer
 }
 
@@ -285,8 +301,10 @@ pub extern "C" fn vig_paths_set_scid_seq(t: &mut Paths, id: u64, has: bool, seq:
 pub extern "C" fn vig_paths_set_dcid_seq(t: &mut Paths, id: u64, has: bool, seq: u64) -> Done
     ensures { λ r. ⌜ (r ≡ (doneCall (now (t .entry)) (seqFormed has seq) (C.On id (C.SetDcid (given has seq)))) .answer) × (now (t .exit) ≡ (doneCall (now (t .entry)) (seqFormed has seq) (C.On id (C.SetDcid (given has seq)))) .paths) ⌝ }
 {
-    let a = paths::set_dcid_seq(*t, id, has, seq);
-    *t = a.paths;
+    let a = paths::set_dcid_seq_at(*t, id, has, seq);
+    let i = a.place;
+    let y = a.path;
+    t.items[i] = y;
     a.answer
 }
 
@@ -294,8 +312,10 @@ pub extern "C" fn vig_paths_set_dcid_seq(t: &mut Paths, id: u64, has: bool, seq:
 pub extern "C" fn vig_paths_set_active(t: &mut Paths, id: u64, on: bool) -> Done
     ensures { λ r. ⌜ (r ≡ (doneCall (now (t .entry)) true (C.On id (C.SetActive on))) .answer) × (now (t .exit) ≡ (doneCall (now (t .entry)) true (C.On id (C.SetActive on))) .paths) ⌝ }
 {
-    let a = paths::set_active(*t, id, on);
-    *t = a.paths;
+    let a = paths::set_active_at(*t, id, on);
+    let i = a.place;
+    let y = a.path;
+    t.items[i] = y;
     a.answer
 }
 
@@ -304,7 +324,9 @@ pub extern "C" fn vig_paths_set_active(t: &mut Paths, id: u64, on: bool) -> Done
 pub extern "C" fn vig_paths_mark_verified(t: &mut Paths, id: u64) -> Done
     ensures { λ r. ⌜ (r ≡ (doneCall (now (t .entry)) true (C.On id C.Verify)) .answer) × (now (t .exit) ≡ (doneCall (now (t .entry)) true (C.On id C.Verify)) .paths) ⌝ }
 {
-    let a = paths::mark_verified(*t, id);
-    *t = a.paths;
+    let a = paths::mark_verified_at(*t, id);
+    let i = a.place;
+    let y = a.path;
+    t.items[i] = y;
     a.answer
 }

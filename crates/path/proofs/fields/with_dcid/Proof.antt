@@ -1,10 +1,17 @@
 -- The flag and the sequence change together.
 use Rattle.path.specs.FieldLaws.{dcid-is}
+use borrow.Author.Needs.{needs}
 use Rattle.path.proofs.fields.with_dcid.Statement.{statement}
 use Rattle.path.proofs.fields.with_dcid.Tie as tie
 
+pick-flag-requires : tie.Need-pick-flag-requires
+pick-flag-requires c κs = search needs
+
+pick-requires : tie.Need-pick-requires
+pick-requires c κs = search needs
+
 returns : tie.Need-returns
-returns c = dcid-is (c .args .x) (c .pre .0) (c .args .has) (c .args .seq) (c .pre .1)
+returns c = let s = c .before .before in dcid-is (s .args .x) (s .args .has) (s .args .seq) (s .args .ok) (s .pre) _ _ (c .before .pick-flag .ensures) (c .pick .ensures)
 
 pub with-dcid-spec : {M : Type 1} → statement M
-with-dcid-spec = tie.close (tie.spec returns)
+with-dcid-spec = tie.close (tie.spec pick-flag-requires pick-requires returns)

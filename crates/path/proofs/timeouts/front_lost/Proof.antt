@@ -1,25 +1,20 @@
--- Another challenge, or the end: the two cases of the definition.
-use Rattle.path.specs.TimeoutLaws.{lost-again, lost-last}
-use native.Mathlib.Omega.{arith}
+-- Another challenge, or the end: the test decides each field.
 use borrow.Author.Needs.{needs}
+use Rattle.path.specs.TimeoutLaws.{lost-is}
 use Rattle.path.proofs.timeouts.front_lost.Statement.{statement}
 use Rattle.path.proofs.timeouts.front_lost.Tie as tie
 
 add-lost : tie.Need-add-lost
 add-lost c = search needs
 
-sent-drop-front-requires : tie.Need-sent-drop-front-requires
-sent-drop-front-requires c κs = search needs
+sent-rest-requires : tie.Need-sent-rest-requires
+sent-rest-requires c κs = search needs
+
+pick-rank-requires : tie.Need-pick-rank-requires
+pick-rank-requires c κs = search needs
 
 returns : tie.Need-returns
-returns c = let s = c .before .before .before .before in lost-again (s .args .x) (s .pre .0) _ (c .sent-drop-front .ensures) (omega arith)
-
-no-sent-requires : tie.Need-no-sent-requires
-no-sent-requires c κs = search needs
-
-returns-2 : tie.Need-returns-2
-returns-2 c = let s = c .before .before .before in lost-last (s .args .x) (s .pre .0) _ (c .no-sent .ensures) (omega arith)
+returns c = let s = c .before .before .before .before .before .before in lost-is (s .args .x) (s .pre .0) _ _ (c .before .before .before .sent-rest .ensures) (c .before .before .pick-rank .ensures)
 
 pub front-lost-spec : {M : Type 1} → statement M
-front-lost-spec =
-    tie.close (tie.spec add-lost sent-drop-front-requires returns no-sent-requires returns-2)
+front-lost-spec = tie.close (tie.spec add-lost sent-rest-requires pick-rank-requires returns)

@@ -1,36 +1,17 @@
--- The path is there and is changed; or `get` says why not.
-use mathlib.Core.Path.{refl, ap, _∙_}
-use mathlib.Core.Bool.{Bool, true, cond}
+-- What the call leaves at one place, in the state.
+use mathlib.Core.Path.{_∙_}
 use borrow.Author.Needs.{needs}
-use Rattle.paths_rules.specs.Calls.{Verify}
-use Rattle.paths.specs.CallLaws.{got-formed, got-room, act-ok, act-no, doneX}
 use Rattle.paths.proofs.calls.mark_verified.Statement.{statement}
 use Rattle.paths.proofs.calls.mark_verified.Tie as tie
 
-get-requires : tie.Need-get-requires
-get-requires c κs = search needs
+mark-verified-at-requires : tie.Need-mark-verified-at-requires
+mark-verified-at-requires c κs = search needs
 
-verified-requires : tie.Need-verified-requires
-verified-requires c κs = got-formed (c .before .before .before .before .args .t) (c .before .before .before .before .args .id) _ (c .before .before .before .get .ensures) (c .before .if1 .taken)
-
-stored-requires : tie.Need-stored-requires
-stored-requires c κs = got-room (c .before .before .before .before .before .args .t) (c .before .before .before .before .before .args .id) _ (c .before .before .before .before .get .ensures) (c .before .before .if1 .taken)
-
-done-requires : tie.Need-done-requires
-done-requires c κs = search needs
+put-requires : tie.Need-put-requires
+put-requires c κs = c .mark-verified-at .ensures .within
 
 returns : tie.Need-returns
-returns c =
-    let a = c .before .before .before .before .before .before .before .args in
-    c .done .ensures ∙ act-ok doneX (a .t) true refl (a .id) Verify _ (c .before .before .before .before .before .before .get .ensures) (c .before .before .before .before .if1 .taken) (λ k. ap (λ (b : Bool). cond b 0 2) k) _ (c .before .before .verified .ensures) _ (c .before .stored .ensures)
-
-done-requires-2 : tie.Need-done-requires-2
-done-requires-2 c κs = search needs
-
-returns-2 : tie.Need-returns-2
-returns-2 c =
-    let a = c .before .before .before .before .args in
-    c .done2 .ensures ∙ act-no doneX (a .t) true refl (a .id) Verify _ (c .before .before .before .get .ensures) (c .before .if1 .left) refl
+returns c = c .put .ensures ∙ (λ i. record { paths = c .before .mark-verified-at .ensures .state i; answer = c .before .mark-verified-at .ensures .answer i })
 
 pub mark-verified-spec : {M : Type 1} → statement M
-mark-verified-spec = tie.close (tie.spec get-requires verified-requires stored-requires done-requires returns done-requires-2 returns-2)
+mark-verified-spec = tie.close (tie.spec mark-verified-at-requires put-requires returns)

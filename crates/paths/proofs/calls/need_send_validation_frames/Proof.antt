@@ -1,33 +1,41 @@
--- The path is there and is read; or `get` says why not.
-use mathlib.Core.Path.{refl, ap, _∙_}
-use mathlib.Core.Bool.{false}
+-- The path is there and is read, or the refusal.
+use mathlib.Core.Path.{refl, sym, ap, ap₂, _∙_}
+use mathlib.Core.Bool.{true, false, and-true}
 use borrow.Author.Needs.{needs}
-use Rattle.paths_rules.specs.Path.{needsFrames}
+use borrow.Author.Tests.{eq-eqb}
+use Rattle.paths_state.specs.Formed.{wellFormed}
+use Rattle.paths_rules.specs.Path.{needsFrames, zeroPath}
 use Rattle.paths_rules.specs.Calls.{NeedsFrames}
-use Rattle.paths.specs.Reading.{flaggedAt, flaggedOf}
-use Rattle.paths.specs.CallLaws.{read-0, read-no, got-view, got-formed}
+use Rattle.paths.specs.Reading.{flaggedAt, flaggedOf, pathAnswerAt}
+use Rattle.paths.specs.CallLaws.{got-view, pathAnswer, read-0, read-no}
+use Rattle.paths.specs.ActLaws.{got-0, got-no, look-formed}
 use Rattle.paths.proofs.calls.need_send_validation_frames.Statement.{statement}
 use Rattle.paths.proofs.calls.need_send_validation_frames.Tie as tie
 
-get-requires : tie.Need-get-requires
-get-requires c κs = search needs
+look-requires : tie.Need-look-requires
+look-requires c κs = search needs
+
+refusal-requires : tie.Need-refusal-requires
+refusal-requires c κs = search needs
 
 needs-frames-requires : tie.Need-needs-frames-requires
-needs-frames-requires c κs = got-formed (c .before .before .before .before .args .t) (c .before .before .before .before .args .id) _ (c .before .before .before .get .ensures) (c .if1 .taken)
+needs-frames-requires c κs =
+    let a = c .before .before .before .before .args in
+    look-formed (a .t) (a .id) _ (c .before .before .before .look .ensures) true _ (c .before .before .before .look .ensures .formed ∙ sym (and-true (wellFormed (a .t)))) _ (c .before .before .refusal .ensures) (eq-eqb _ 0 (c .before .if1 .taken))
 
 returns : tie.Need-returns
 returns c =
     let a = c .before .before .before .before .before .args in
-    ap (flaggedAt 0) (c .needs-frames .ensures ∙ ap (needsFrames (a .t .«is_server»)) (got-view (a .t) (a .id) _ (c .before .before .before .before .get .ensures) (c .before .if1 .taken)))
-    ∙ read-0 (a .t) (a .id) _ (c .before .before .before .before .get .ensures) flaggedOf NeedsFrames (flaggedAt 1 false) refl (c .before .if1 .taken)
+    ap (flaggedAt 0) (c .needs-frames .ensures ∙ ap₂ needsFrames (c .before .before .before .before .look .ensures .server) (got-view (a .t) (a .id) (pathAnswer 0 (c .before .before .before .before .look .result .path)) (got-0 (a .t) (a .id) _ (c .before .before .before .before .look .ensures) true _ (c .before .before .before .before .look .ensures .formed ∙ sym (and-true (wellFormed (a .t)))) _ (c .before .before .before .refusal .ensures) refl (c .before .before .if1 .taken)) refl))
+    ∙ read-0 (a .t) (a .id) (pathAnswer 0 (c .before .before .before .before .look .result .path)) (got-0 (a .t) (a .id) _ (c .before .before .before .before .look .ensures) true _ (c .before .before .before .before .look .ensures .formed ∙ sym (and-true (wellFormed (a .t)))) _ (c .before .before .before .refusal .ensures) refl (c .before .before .if1 .taken)) flaggedOf NeedsFrames (flaggedAt 1 false) refl refl
 
 no-flag-requires : tie.Need-no-flag-requires
 no-flag-requires c κs = search needs
 
 returns-2 : tie.Need-returns-2
 returns-2 c =
-    let a = c .before .before .before .before .before .args in
-    c .no-flag .ensures ∙ read-no (a .t) (a .id) _ (c .before .before .before .before .get .ensures) flaggedOf NeedsFrames (flaggedAt 1 false) refl (c .before .if1 .left) (λ n. flaggedAt n false) refl refl
+    let a = c .before .before .before .before .args in
+    c .no-flag .ensures ∙ read-no (a .t) (a .id) (pathAnswerAt (c .before .before .refusal .result) zeroPath) (got-no (a .t) (a .id) _ (c .before .before .before .look .ensures) true _ (c .before .before .before .look .ensures .formed ∙ sym (and-true (wellFormed (a .t)))) _ (c .before .before .refusal .ensures) refl (c .before .if1 .left)) flaggedOf NeedsFrames (flaggedAt 1 false) refl (c .before .if1 .left) (λ n. flaggedAt n false) refl refl
 
 pub need-send-validation-frames-spec : {M : Type 1} → statement M
-need-send-validation-frames-spec = tie.close (tie.spec get-requires needs-frames-requires returns no-flag-requires returns-2)
+need-send-validation-frames-spec = tie.close (tie.spec look-requires refusal-requires needs-frames-requires returns no-flag-requires returns-2)

@@ -1,46 +1,17 @@
--- The sequence has its form, the path is there and is changed; or it is said why not.
-use mathlib.Core.Path.{refl, ap, _∙_}
-use mathlib.Core.Bool.{Bool, cond}
+-- What the call leaves at one place, in the state.
+use mathlib.Core.Path.{_∙_}
 use borrow.Author.Needs.{needs}
-use Rattle.lists.specs.Defs.{given}
-use Rattle.paths_rules.specs.Calls.{SetDcid, On}
-use Rattle.paths_state.specs.Formed.{seqFormed}
-use Rattle.paths.specs.CallLaws.{got-formed, got-room, args-no, act-ok, act-no, doneX}
 use Rattle.paths.proofs.calls.set_dcid_seq.Statement.{statement}
 use Rattle.paths.proofs.calls.set_dcid_seq.Tie as tie
 
-get-requires : tie.Need-get-requires
-get-requires c κs = search needs
+set-dcid-seq-at-requires : tie.Need-set-dcid-seq-at-requires
+set-dcid-seq-at-requires c κs = search needs
 
-with-dcid-requires : tie.Need-with-dcid-requires
-with-dcid-requires c κs = (got-formed (c .before .before .before .before .before .args .t) (c .before .before .before .before .before .args .id) _ (c .before .before .before .get .ensures) (c .before .if2 .taken), c .before .before .before .before .if1 .taken)
-
-stored-requires : tie.Need-stored-requires
-stored-requires c κs = got-room (c .before .before .before .before .before .before .args .t) (c .before .before .before .before .before .before .args .id) _ (c .before .before .before .before .get .ensures) (c .before .before .if2 .taken)
-
-done-requires : tie.Need-done-requires
-done-requires c κs = search needs
+put-requires : tie.Need-put-requires
+put-requires c κs = c .set-dcid-seq-at .ensures .within
 
 returns : tie.Need-returns
-returns c =
-    let a = c .before .before .before .before .before .before .before .before .args in
-    c .done .ensures ∙ act-ok doneX (a .t) (seqFormed (a .has) (a .seq)) (c .before .before .before .before .before .before .before .if1 .taken) (a .id) (SetDcid (given (a .has) (a .seq))) _ (c .before .before .before .before .before .before .get .ensures) (c .before .before .before .before .if2 .taken) (λ k. ap (λ (b : Bool). cond b 0 2) k) _ (c .before .before .with-dcid .ensures) _ (c .before .stored .ensures)
-
-done-requires-2 : tie.Need-done-requires-2
-done-requires-2 c κs = search needs
-
-returns-2 : tie.Need-returns-2
-returns-2 c =
-    let a = c .before .before .before .before .before .args in
-    c .done2 .ensures ∙ act-no doneX (a .t) (seqFormed (a .has) (a .seq)) (c .before .before .before .before .if1 .taken) (a .id) (SetDcid (given (a .has) (a .seq))) _ (c .before .before .before .get .ensures) (c .before .if2 .left) refl
-
-done-requires-3 : tie.Need-done-requires-3
-done-requires-3 c κs = search needs
-
-returns-3 : tie.Need-returns-3
-returns-3 c =
-    let a = c .before .before .args in
-    c .done3 .ensures ∙ args-no doneX (a .t) (seqFormed (a .has) (a .seq)) (On (a .id) (SetDcid (given (a .has) (a .seq)))) (c .before .if1 .left)
+returns c = c .put .ensures ∙ (λ i. record { paths = c .before .set-dcid-seq-at .ensures .state i; answer = c .before .set-dcid-seq-at .ensures .answer i })
 
 pub set-dcid-seq-spec : {M : Type 1} → statement M
-set-dcid-seq-spec = tie.close (tie.spec get-requires with-dcid-requires stored-requires done-requires returns done-requires-2 returns-2 done-requires-3 returns-3)
+set-dcid-seq-spec = tie.close (tie.spec set-dcid-seq-at-requires put-requires returns)

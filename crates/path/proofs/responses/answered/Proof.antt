@@ -1,0 +1,88 @@
+-- Idle, the size reached, and not: in each case the three parts are those of the three definitions.
+use mathlib.Core.Path.{sym, _∙_}
+use native.Mathlib.Omega.{arith}
+use borrow.Author.Tests.{le-leb, lt-leb}
+use borrow.Author.Needs.{needs}
+use Rattle.values.specs.Limits.{minClientInitialLen}
+use Rattle.path.specs.FieldLaws.{made}
+use Rattle.path.specs.ChalLaws.{busy, sent-held, largest-is, respond-idle, respond-big, respond-small, matched-idle, matched-is, validates-idle, validates-is}
+use Rattle.path.proofs.responses.answered.Statement.{statement}
+use Rattle.path.proofs.responses.answered.Tie as tie
+
+no-spans-requires : tie.Need-no-spans-requires
+no-spans-requires c κs = search needs
+
+returns : tie.Need-returns
+returns c =
+    let f = c .before in
+    let s = f .before .before in
+    let a = s .args in
+    let p = respond-idle (a .x) (a .«data») (a .multi) (a .ok) (s .pre) (f .if1 .taken) in
+    let m = c .no-spans .ensures ∙ matched-idle (a .x) (a .«data») (a .now .us) (a .ok) (f .if1 .taken) in
+    let v = validates-idle (a .x) (a .«data») (a .ok) (f .if1 .taken) in
+    λ i. record { path = p i; spans = m i; yes = v i }
+
+sent-matches-requires : tie.Need-sent-matches-requires
+sent-matches-requires c κs = let f = c .before in let s = f .before .before in sent-held (s .args .x) (s .pre (busy (s .args .ok) _ (f .if1 .left) .0))
+
+larger-requires : tie.Need-larger-requires
+larger-requires c κs = search needs
+
+raised-requires : tie.Need-raised-requires
+raised-requires c κs = search needs
+
+no-sent-requires : tie.Need-no-sent-requires
+no-sent-requires c κs = search needs
+
+raised-requires-2 : tie.Need-raised-requires-2
+raised-requires-2 c κs = search needs
+
+returns-2 : tie.Need-returns-2
+returns-2 c =
+    let r = c .before .before .before in
+    let l = r .before in
+    let q = l .before .before in
+    let f = q .before .before in
+    let s = f .before .before in
+    let a = s .args in
+    let t = busy (a .ok) _ (f .if1 .left) in
+    let n = l .larger .ensures ∙ largest-is (a .x) (a .«data») (a .now .us) _ (q .sent-matches .ensures) in
+    let b = le-leb minClientInitialLen (l .larger .result) (omega arith) in
+    let p = made _ _ _ (t .0) _ (respond-big (a .x) (s .pre (t .0)) (a .«data») (a .multi) (t .1) _ _ n (r .raised .ensures) _ _ (c .before .no-sent .ensures) (c .raised2 .ensures) b) in
+    let m = matched-is (a .x) (a .«data») (a .now .us) _ (q .sent-matches .ensures) (a .ok) (f .if1 .left) in
+    let v = sym b ∙ validates-is (a .x) (a .«data») (a .ok) (f .if1 .left) _ n in
+    λ i. record { path = p i; spans = m i; yes = v i }
+
+sent-unmatched-requires : tie.Need-sent-unmatched-requires
+sent-unmatched-requires c κs = let f = c .before .before .before .before .before .before in let s = f .before .before in sent-held (s .args .x) (s .pre (busy (s .args .ok) _ (f .if1 .left) .0))
+
+returns-3 : tie.Need-returns-3
+returns-3 c =
+    let r = c .before .before in
+    let l = r .before in
+    let q = l .before .before in
+    let f = q .before .before in
+    let s = f .before .before in
+    let a = s .args in
+    let t = busy (a .ok) _ (f .if1 .left) in
+    let n = l .larger .ensures ∙ largest-is (a .x) (a .«data») (a .now .us) _ (q .sent-matches .ensures) in
+    let b = lt-leb minClientInitialLen (l .larger .result) (omega arith) in
+    let p = made _ _ _ (t .0) _ (respond-small (a .x) (s .pre (t .0)) (a .«data») (a .multi) (t .1) _ _ n (r .raised .ensures) _ (c .sent-unmatched .ensures) b) in
+    let m = matched-is (a .x) (a .«data») (a .now .us) _ (q .sent-matches .ensures) (a .ok) (f .if1 .left) in
+    let v = sym b ∙ validates-is (a .x) (a .«data») (a .ok) (f .if1 .left) _ n in
+    λ i. record { path = p i; spans = m i; yes = v i }
+
+pub answered-spec : {M : Type 1} → statement M
+answered-spec =
+    tie.close
+    (tie.spec
+    no-spans-requires
+    returns
+    sent-matches-requires
+    larger-requires
+    raised-requires
+    no-sent-requires
+    raised-requires-2
+    returns-2
+    sent-unmatched-requires
+    returns-3)
