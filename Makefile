@@ -6,7 +6,7 @@ AREAS ?= $(shell cat tools/areas)
 PREFIX ?= /usr/local
 LIB ?= target/staticlib/libvignorasc.a
 
-.PHONY: demo test trials bench host install sample clean
+.PHONY: demo test trials bench audit host install sample clean
 
 # The main job: prove the story's program and everything below it, run it, and show what it says.
 demo:
@@ -40,6 +40,10 @@ install: $(LIB)
 # Made where it is missing. After an edit, rt staticlib vignorasc makes it again.
 $(LIB):
 	rt staticlib vignorasc
+
+# Wrong answers, two and more for each published call, made in a copy of the code: the prover must refuse each. docs/AUDIT.md.
+audit:
+	tests/audit/run
 
 # The stored trace that the gate replays, made again by the Rust.
 sample:
