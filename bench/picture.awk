@@ -46,12 +46,14 @@ function panel(area, x, y, largest, i, w, tick, at, zero, value) {
     }
     for (i = 1; i <= calls[area]; i++) {
         text(x + label, y + 15, "call", call[area, i])
+        end = 0
         for (w = 1; w <= ways; w++) {
             value = per[area, call[area, i], way[w]]
             box(zero, y + 2 + (w - 1) * bar, value / largest * bars, bar, colour[w])
+            if (value > end) end = value
         }
-        value = per[area, call[area, i], way[1]]
-        text(zero + value / largest * bars + 4, y + 10, "number", sprintf("%.0f", value))
+        # past the longest bar, so that it stands on none
+        text(zero + end / largest * bars + 4, y + 10, "number", sprintf("%.0f", per[area, call[area, i], way[1]]))
         y += row
     }
 }
