@@ -1,5 +1,5 @@
 # Draws the instructions of each call at typical occupancy, as SVG, from the lines of run's `measure`:
-# number, area, call, way, state, N, total, with tabs between. Plain awk; exits 1 where an area is missing.
+# number, area, call, way, state, N, total, with tabs between; N is `times` and twice that. Plain awk; exits 1 where an area is missing.
 BEGIN {
     FS = "\t"
     ways = split("lent;Rust + test;Rust + tuned", way, ";")
@@ -9,9 +9,9 @@ BEGIN {
     margin = 16; column = 426; label = 192; bars = 190 # widths; what is left is for the number
     row = 22; bar = 6; head = 40                       # heights
 }
-$6 == 1000 { low = $7 }
-$6 == 2000 {
-    per[$2, $3, $4] = ($7 - low) / 1000
+$6 == times { low = $7 }
+$6 == 2 * times {
+    per[$2, $3, $4] = ($7 - low) / times
     if ($4 == "lent" && $3 !~ /^\(/) call[$2, ++calls[$2]] = $3
     if (!($2 in about)) { about[$2] = $5; sub(/[,;.].*/, "", about[$2]) }
 }

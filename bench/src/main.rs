@@ -31,8 +31,15 @@ const _: [&[u8]; 2] =
     [include_bytes!("../../target/staticlib/libvignorasc.a"), include_bytes!("../../target/staticlib/libby_value.a")];
 
 /// The areas, in the order of the tables.
-const AREAS: [fn() -> Area; 6] =
-    [values::area, timers::area, ids::area::<false>, ids::area::<true>, paths::area::<false>, paths::area::<true>];
+const AREAS: [fn() -> Area; 7] = [
+    values::area,
+    timers::area::<false>,
+    timers::area::<true>,
+    ids::area::<false>,
+    ids::area::<true>,
+    paths::area::<false>,
+    paths::area::<true>,
+];
 
 /// The calls over one kind of state.
 pub struct Area {

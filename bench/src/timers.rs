@@ -66,17 +66,31 @@ const SET: [(Timer, u64); 3] = [(Timer::LossDetection, 250_000), (Timer::Idle, 3
 const TIMER: Timer = SET[1].0;
 const AT: u64 = 40_000_000;
 
-fn ours() -> TimerTable {
+/// What is set besides where the table is full, so that the earliest comes last.
+const BESIDES: [(Timer, u64); 6] = [
+    (Timer::Ack, 240_000),
+    (Timer::Pacer, 230_000),
+    (Timer::Handshake, 220_000),
+    (Timer::Draining, 210_000),
+    (Timer::KeyDiscard, 205_000),
+    (Timer::PathChallenge, 200_000),
+];
+
+fn set(full: bool) -> Vec<(Timer, u64)> {
+    SET.into_iter().chain(BESIDES.into_iter().filter(|_| full)).collect()
+}
+
+fn ours(full: bool) -> TimerTable {
     let mut table = unsafe { vig_timers_fresh() };
-    for (timer, us) in SET {
+    for (timer, us) in set(full) {
         unsafe { vig_timers_set(&mut table, timer as u64, Moment { us }) };
     }
     table
 }
 
-fn rust() -> Rust {
+fn rust(full: bool) -> Rust {
     let mut table = Rust::default();
-    for (timer, us) in SET {
+    for (timer, us) in set(full) {
         table.set(timer, instant(us));
     }
     table
@@ -92,13 +106,19 @@ fn seen(table: &Rust) -> TimerTable {
     TimerTable { expires: all.map(deadline) }
 }
 
-pub fn area() -> Area {
+pub fn area<const FULL: bool>() -> Area {
     let (ours, rust) = (size_of::<TimerTable>(), size_of::<Rust>());
-    Area { name: "timers", state: format!("{ours} bytes of state, the Rust's own {rust}; 3 of 9 timers set"), rows: rows() }
+    let count = set(FULL).len();
+    Area {
+        name: if FULL { "timers full" } else { "timers" },
+        state: format!("{ours} bytes of state, the Rust's own {rust}; {count} of 9 timers set"),
+        rows: rows(FULL),
+    }
 }
 
 /// The row of a call that is given a timer and a moment, of which `form` tests those that ours is given.
 fn row<Out: Answer, Back: Gives<TimerTable, Out>, RustOut>(
+    full: bool,
     name: &'static str,
     form: impl Fn(u64, Moment) -> bool + Copy + 'static,
     lent: impl Fn(&mut TimerTable, (u64, Moment)) -> Out + Copy + 'static,
@@ -108,13 +128,13 @@ fn row<Out: Answer, Back: Gives<TimerTable, Out>, RustOut>(
     let test = move |t: &TimerTable, &(timer, at): &(u64, Moment)| form(timer, at) && t.formed();
     let tuned = move |t: &TimerTable, &(timer, at): &(u64, Moment)| form(timer, at) & t.tuned();
     Call { name, test, tuned, lent, by_value, rust }.row(
-        Given { state: ours(), arguments: (TIMER as u64, Moment { us: AT }) },
-        || Given { state: self::rust(), arguments: (TIMER, instant(AT)) },
+        Given { state: ours(full), arguments: (TIMER as u64, Moment { us: AT }) },
+        move || Given { state: self::rust(full), arguments: (TIMER, instant(AT)) },
         seen,
     )
 }
 
-fn rows() -> Vec<Row> {
+fn rows(full: bool) -> Vec<Row> {
     let fresh = Call {
         name: "fresh",
         test: |_: &TimerTable, _: &()| true,
@@ -124,8 +144,9 @@ fn rows() -> Vec<Row> {
         rust: |t: &mut Rust, _: ()| *t = Rust::default(),
     };
     vec![
-        fresh.row(Given { state: ours(), arguments: () }, || Given { state: rust(), arguments: () }, seen),
+        fresh.row(Given { state: ours(full), arguments: () }, move || Given { state: rust(full), arguments: () }, seen),
         row(
+            full,
             "set",
             |timer, at| timer < 9 && at.formed(),
             |t, (timer, at)| unsafe { vig_timers_set(t, timer, at) },
@@ -133,6 +154,7 @@ fn rows() -> Vec<Row> {
             |t, (timer, at)| t.set(timer, at),
         ),
         row(
+            full,
             "stop",
             |timer, _| timer < 9,
             |t, (timer, _)| unsafe { vig_timers_stop(t, timer) },
@@ -140,6 +162,7 @@ fn rows() -> Vec<Row> {
             |t, (timer, _)| t.stop(timer),
         ),
         row(
+            full,
             "get",
             |timer, _| timer < 9,
             |t, (timer, _)| unsafe { vig_timers_get(t, timer) },
@@ -147,6 +170,7 @@ fn rows() -> Vec<Row> {
             |t, (timer, _)| t.get(timer),
         ),
         row(
+            full,
             "next_timeout",
             |_, _| true,
             |t, _| unsafe { vig_timers_next_timeout(t) },
@@ -154,6 +178,7 @@ fn rows() -> Vec<Row> {
             |t, _| t.next_timeout(),
         ),
         row(
+            full,
             "is_expired",
             |timer, now| timer < 9 && now.formed(),
             |t, (timer, now)| unsafe { vig_timers_is_expired(t, timer, now) },
