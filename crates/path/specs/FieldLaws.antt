@@ -99,8 +99,8 @@ module _ (x : S.Path) (w : pathFormed x ≡ true) where
   pub pinged-is : (b : Bool) → putPing b x ≡ pathOf (withPing b (pathView x))
   pinged-is b = ap (putPing b) back
 
-  pub unlisted-is : (a : FourTuple) (same : Bool) → same ≡ samePair (x .pair) a → putListed (x .listed && not same) x ≡ pathOf (unlist a (pathView x))
-  unlisted-is a same e = ap (λ (b : Bool). putListed (x .listed && not b) x) e ∙ ap (putListed (x .listed && not (samePair (x .pair) a))) back
+  pub unlisted-is : (a : FourTuple) (listed : Bool) → listed ≡ unlist a (pathView x) .listed → putListed listed x ≡ pathOf (unlist a (pathView x))
+  unlisted-is a listed e = ap (λ (b : Bool). putListed b x) e ∙ ap (putListed (unlist a (pathView x) .listed)) back
 
   pub ping-used : inUse (pathView x) ≡ true → pathOf (withPing true (pathView x)) ≡ pathOf (pingInUse (pathView x))
   ping-used t = sym (ap (λ (b : Bool). pathOf (cond b (withPing true (pathView x)) (pathView x))) t)

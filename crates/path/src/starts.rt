@@ -1,6 +1,7 @@
 // A path at its start: one that is inserted, and the first of a fresh table.
 ghost use mathlib.Core.Path.{_≡_};
 ghost use Rattle.paths_rules.specs.Path.{firstPath, newPath};
+ghost use Rattle.paths_state.specs.Formed.{zeroPath};
 ghost use Rattle.path.specs.Reading.{pathOf};
 use crate::ranks::UNKNOWN;
 use crate::ranks::VALIDATED;
@@ -32,6 +33,19 @@ pub fn new_path(pair: FourTuple, mds: u64) -> Path
         need_send_ping: false,
         listed: true,
     }
+}
+
+// The same, made of the zeros of a free place: only what is not zero is written.
+pub fn new_path_at(zero: Path, pair: FourTuple, mds: u64) -> Path
+    requires { ⌜ zero ≡ zeroPath ⌝ }
+    ensures { λ r. ⌜ r ≡ pathOf (newPath pair mds) ⌝ }
+{
+    let mut x = zero;
+    x.pair = pair;
+    x.max_datagram_size = mds;
+    x.state = UNKNOWN;
+    x.listed = true;
+    x
 }
 
 pub fn first_path(pair: FourTuple, mds: u64) -> Path

@@ -71,3 +71,15 @@ pub fn listed_as(x: Path, pair: FourTuple) -> bool
     let same = values::pair_eq(own, pair);
     x.listed & same
 }
+
+// Whether the path is listed still where another path takes the pair over.
+pub fn stays_listed(x: Path, pair: FourTuple) -> bool
+    ensures { λ r. ⌜ r ≡ R.unlist pair (pathView x) .listed ⌝ }
+{
+    let own = x.pair;
+    if own.remote.port != pair.remote.port {
+        return x.listed;
+    }
+    let same = values::pair_eq(own, pair);
+    x.listed & !same
+}

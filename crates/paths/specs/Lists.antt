@@ -6,10 +6,12 @@ use mathlib.Core.List.{List, [], _∷_, _++_, map}
 use mathlib.Core.Bool.{Bool, true, false, cond}
 use mathlib.Core.Option.{Option, none, some}
 use native.Mathlib.Nat.{not-suc-le-zero, le-of-suc-le-suc}
+use native.Mathlib.Omega.{arith}
 use lib.ListN.{length, set, getD, replicate, length-set}
 use lib.Seq.{set-append-left}
 use Rattle.lists.specs.Defs.{all, later, firstWith, padded}
 use Rattle.lists.specs.Bools.{and-both}
+use Rattle.lists.specs.Held.{length-padded, getD-in}
 
 pub set-padded : {A : Type 0} (n : ℕ) (z : A) (l : List A) (i : ℕ) (a : A) → i < length l → set (padded n z l) i a ≡ padded n z (set l i a)
 set-padded n z l i a h = set-append-left l (replicate (n - length l) z) i a h ∙ ap (λ (m : ℕ). set l i a ++ replicate (n - m) z) (sym (length-set l i a))
@@ -26,6 +28,14 @@ padded-at {A} n z l p = go l p (n - length l)
     go [] p k = zeros p k
     go (x ∷ l) zero k = refl
     go (x ∷ l) (suc p) k = go l p k
+
+-- the place after the elements holds padding
+pub free-place : {A : Type 0} (n : ℕ) (z d : A) (l : List A) → length l < n → getD (padded n z l) (length l) d ≡ z
+free-place {A} n z d l h = getD-in (padded n z l) (length l) d z (omega (arith, length-padded n z l (omega (arith, h)), h)) ∙ padded-at n z l (length l) ∙ past l
+  where
+    past : (l : List A) → getD l (length l) z ≡ z
+    past [] = refl
+    past (x ∷ l) = past l
 
 -- padding that does not pass is never the first
 pub first-padded : {A : Type 0} (p : A → Bool) (n : ℕ) (z : A) (l : List A) → p z ≡ false → firstWith p (padded n z l) ≡ firstWith p l

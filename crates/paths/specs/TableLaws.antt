@@ -27,7 +27,7 @@ use Rattle.path.specs.Reading.{pathView, pathOf}
 use Rattle.path.specs.Puts.{putListed}
 use Rattle.path.specs.FieldLaws.{back, unlisted-is}
 use Rattle.paths.specs.Reading.{view, putPaths, pathsOf}
-use Rattle.paths.specs.Lists.{first-map, first-padded}
+use Rattle.paths.specs.Lists.{first-map, first-padded, free-place}
 use Rattle.paths.specs.ReadingLaws.{Tidy, live-long, items-long, paths-long, put-is, formed-at, stored-of, pushed-of}
 use Rattle.paths_state.specs.declared.state.Path as S
 use Rattle.paths_state.specs.Formed as F
@@ -180,14 +180,21 @@ module _ (t : Paths) (w : Tidy t) (d : S.Path) (i : ℕ) (u : Paths) (h : i < t 
   abbrev x : S.Path
   x = getD (u .items) i d
 
-  pub unlisted-more : (a : FourTuple) → Turned (unlist a) t i u → (p : Bool) → p ≡ samePair (x .pair) a → Turned (unlist a) t (i + 1) (putPaths (set (u .items) i (putListed (x .listed && not p) x)) (u .count) u)
-  unlisted-more a q p e = each-more t w (unlist a) d i u h q (putListed (x .listed && not p) x) (unlisted-is x (each-formed t w (unlist a) d i u h q) a p e)
+  pub unlisted-more : (a : FourTuple) → Turned (unlist a) t i u → (l : Bool) → l ≡ unlist a (pathView x) .listed → Turned (unlist a) t (i + 1) (putPaths (set (u .items) i (putListed l x)) (u .count) u)
+  unlisted-more a q l e = each-more t w (unlist a) d i u h q (putListed l x) (unlisted-is x (each-formed t w (unlist a) d i u h q) a l e)
 
   pub both-more : (a b : FourTuple) → Turned (unlistBoth a b) t i u → (p r : Bool) → p ≡ samePair (x .pair) a → r ≡ samePair (x .pair) b
       → Turned (unlistBoth a b) t (i + 1) (putPaths (set (u .items) i (putListed (x .listed && not p && not r) x)) (u .count) u)
   both-more a b q p r e f =
       each-more t w (unlistBoth a b) d i u h q (putListed (x .listed && not p && not r) x)
       (ap₂ (λ (c g : Bool). putListed (x .listed && not c && not g) x) e f ∙ ap (putListed (x .listed && not (samePair (x .pair) a) && not (samePair (x .pair) b))) (back x (each-formed t w (unlistBoth a b) d i u h q)))
+
+-- the place after the paths is free, whatever was done to each of them
+pub free-at : (t : Paths) → Tidy t → (f : Path → Path) (u : Paths) → u ≡ pathsOf (onAll f (view t)) → t .count < maxPaths → (d : S.Path) → getD (u .items) (t .count) d ≡ F.zeroPath
+free-at t w f u e h d =
+    let l = map pathOf (map f (view t .paths)) in
+    let n : length l ≡ t .count = length-map (map f (view t .paths)) pathOf ∙ length-map (view t .paths) f ∙ paths-long t w in
+    ap (λ (v : Paths). getD (v .items) (t .count) d) e ∙ ap (λ (k : ℕ). getD (padded maxPaths F.zeroPath l) k d) (sym n) ∙ free-place maxPaths F.zeroPath d l (omega (arith, n, h))
 
 module _ (t : Paths) (w : Tidy t) (u : Paths) (a : FourTuple) (m : ℕ) (x : S.Path) (q : x ≡ pathOf (newPath a m)) where
   pub appended-is : t .count < maxPaths → u ≡ pathsOf (onAll (unlist a) (view t)) → putPaths (set (u .items) (t .count) x) (t .count + 1) u ≡ pathsOf (appended a m (view t))

@@ -75,12 +75,12 @@ pub fn appended(t: Paths, pair: FourTuple, max_datagram_size: u64) -> Paths
     let mut i: usize = 0;
     while i < count {
         let x = u.items[i];
-        let p = x.pair;
-        let same = values::pair_eq(p, pair);
-        u.items[i].listed = x.listed & !same;
+        let listed = path::stays_listed(x, pair);
+        u.items[i].listed = listed;
         i += 1;
     }
-    let y = path::new_path(pair, max_datagram_size);
+    let free = u.items[count];
+    let y = path::new_path_at(free, pair, max_datagram_size);
     u.items[count] = y;
     u.count = count + 1;
     u

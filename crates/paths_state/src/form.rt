@@ -69,12 +69,15 @@ pub fn path_formed(x: Path) -> bool
     p & (x.has_scid | (x.scid_seq == 0)) & (x.has_dcid | (x.dcid_seq == 0)) & q & s & lost
 }
 
-// Not both are listed with the same pair.
+// Not both are listed with the same pair. The remote ports come first: among the pairs of a connection they are what differs most often.
 pub fn differ(x: Path, y: Path) -> bool
     ensures { λ r. ⌜ r ≡ apart x y ⌝ }
 {
     let a = x.pair;
     let b = y.pair;
+    if a.remote.port != b.remote.port {
+        return true;
+    }
     let same = values::pair_eq(a, b);
     !(x.listed & y.listed & same)
 }
