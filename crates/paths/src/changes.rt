@@ -22,20 +22,13 @@ use values::refusals::DONE;
 use values::refusals::INTERNAL_ERROR;
 use values::refusals::MALFORMED;
 
-// How many paths a change goes over: none where it is not to be made.
-fn counted(ok: bool, count: usize) -> usize
-    ensures { λ r. ⌜ r ≡ cond ok count 0 ⌝ }
-{
-    if ok { count } else { 0 }
-}
-
 // A timeout on every path; with `ok` false nothing changes. Most paths are not overdue, and stay where they are.
 pub fn timed_out_all(t: Paths, ok: bool, now: Moment) -> Paths
     requires { ⌜ (ok ≡ true → Tidy t) ⌝ }
     ensures { λ r. ⌜ r ≡ cond ok (pathsOf (T.onAll (R.timeout (now .us)) (view t))) t ⌝ }
 {
     let mut u = t;
-    let count = counted(ok, u.count);
+    let count = paths_state::counted(ok, u.count);
     let mut i: usize = 0;
     while i < count {
         let x = u.items[i];

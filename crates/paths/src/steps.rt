@@ -5,7 +5,7 @@ ghost use Prim.Native.Nat.{_<_};
 ghost use lib.Dec.{eqb};
 ghost use lib.ListN.{set};
 ghost use Rattle.values.specs.Limits.{maxPaths};
-ghost use Rattle.paths_state.specs.Formed.{noAddress, wellFormed};
+ghost use Rattle.paths_state.specs.Formed.{wellFormed};
 ghost use Rattle.paths_rules.specs.Calls as C;
 ghost use Rattle.paths_rules.specs.Table as T;
 ghost use Rattle.paths.specs.Reading.{foundOf, noPair, optionalPair, pathsOf, putPaths, view};
@@ -17,7 +17,6 @@ use crate::blanks;
 use crate::search;
 use paths_state::Path;
 use paths_state::Paths;
-use values::Address;
 use values::Counted;
 use values::FourTuple;
 use values::refusals::ACCEPTED;
@@ -50,21 +49,13 @@ pub fn wished(n: u8, wish: u64) -> Counted
     blanks::no_count(n)
 }
 
-fn zero_address(a: Address) -> bool
-    ensures { λ r. ⌜ r ≡ noAddress a ⌝ }
-{
-    let ip = a.ip;
-    let z = values::zero16(ip);
-    z & (a.flow == 0) & (a.scope == 0) & (a.port == 0) & (a.kind == 0)
-}
-
 fn zero_pair(p: FourTuple) -> bool
     ensures { λ r. ⌜ r ≡ noPair p ⌝ }
 {
     let l = p.local;
     let m = p.remote;
-    let x = zero_address(l);
-    let y = zero_address(m);
+    let x = paths_state::zero_address(l);
+    let y = paths_state::zero_address(m);
     x & y
 }
 

@@ -9,5 +9,7 @@ pub use state::Path;
 pub use state::Paths;
 pub use state::no_path;
 pub use state::no_paths;
+pub use test::counted;
 pub use test::formed;
 pub use test::look;
+pub use zeros::zero_address;

@@ -10,8 +10,8 @@ use crate::state::Paths;
 use crate::zeros;
 use values::limits::MAX_PATHS;
 
-// The count where the bounds hold; none otherwise.
-fn counted(b: bool, count: usize) -> usize
+// The count of the paths to go over: none where they are not to be gone over.
+pub fn counted(b: bool, count: usize) -> usize
     ensures { λ r. ⌜ r ≡ cond b count 0 ⌝ }
 {
     if b { count } else { 0 }

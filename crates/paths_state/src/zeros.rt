@@ -34,7 +34,7 @@ pub fn zero_challenges(a: [Challenge; 16]) -> bool
     acc == 0
 }
 
-fn zero_address(a: Address) -> bool
+pub fn zero_address(a: Address) -> bool
     ensures { λ r. ⌜ r ≡ noAddress a ⌝ }
 {
     let ip = a.ip;
