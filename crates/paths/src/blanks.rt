@@ -3,12 +3,15 @@ ghost use mathlib.Core.Path.{_≡_};
 ghost use mathlib.Core.Bool.{false};
 ghost use mathlib.Core.Option.{none};
 ghost use Rattle.paths_rules.specs.Path as R;
-ghost use Rattle.paths.specs.Reading.{countedAt, doneAt, flaggedAt, foundAt, insertedAt, numberedAt, pathAnswerAt, timedAt};
+ghost use Rattle.values.specs.Address.{zeroAddress};
+ghost use Rattle.paths.specs.Reading.{addressAt, countedAt, doneAt, flaggedAt, foundAt, insertedAt, numberedAt, pathAnswerAt, timedAt};
+use crate::answers::AddressAnswer;
 use crate::answers::DoneOut;
 use crate::answers::FoundAnswer;
 use crate::answers::InsertedOut;
 use crate::answers::PathAnswer;
 use paths_state::Paths;
+use values::Address;
 use values::Counted;
 use values::Deadline;
 use values::Done;
@@ -34,6 +37,21 @@ pub fn inserted(t: Paths, n: u8, id: u64) -> InsertedOut
         answer: Counted {
             refusal: n,
             number: id,
+        },
+    }
+}
+
+pub fn no_address(n: u8) -> AddressAnswer
+    ensures { λ r. ⌜ r ≡ addressAt n zeroAddress ⌝ }
+{
+    AddressAnswer {
+        refusal: n,
+        address: Address {
+            ip: [0; 16],
+            flow: 0,
+            scope: 0,
+            port: 0,
+            kind: 0,
         },
     }
 }

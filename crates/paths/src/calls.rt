@@ -125,23 +125,31 @@ pub fn get_active(t: Paths) -> FoundAnswer
 pub fn local_addr(t: Paths, id: u64) -> AddressAnswer
     ensures { λ r. ⌜ r ≡ addressCall t true (C.On id (C.Look C.LocalAddr)) ⌝ }
 {
-    let a = get(t, id);
-    let p = a.path.pair.local;
-    AddressAnswer {
-        refusal: a.refusal,
-        address: p,
+    let k = paths_state::look(t, id);
+    let n = acts::refusal(k.formed, id, k.count);
+    if n == ACCEPTED {
+        let a = k.path.pair.local;
+        return AddressAnswer {
+            refusal: ACCEPTED,
+            address: a,
+        };
     }
+    blanks::no_address(n)
 }
 
 pub fn remote_addr(t: Paths, id: u64) -> AddressAnswer
     ensures { λ r. ⌜ r ≡ addressCall t true (C.On id (C.Look C.RemoteAddr)) ⌝ }
 {
-    let a = get(t, id);
-    let p = a.path.pair.remote;
-    AddressAnswer {
-        refusal: a.refusal,
-        address: p,
+    let k = paths_state::look(t, id);
+    let n = acts::refusal(k.formed, id, k.count);
+    if n == ACCEPTED {
+        let a = k.path.pair.remote;
+        return AddressAnswer {
+            refusal: ACCEPTED,
+            address: a,
+        };
     }
+    blanks::no_address(n)
 }
 
 // The rank of the path's state.
