@@ -3,6 +3,7 @@ pub mod ReadingLaws
 pub mod WellLaws
 pub mod Carry
 pub mod Puts
+pub mod Acts
 pub mod MarkLaws
 pub mod ReadLaws
 pub mod StartLaws

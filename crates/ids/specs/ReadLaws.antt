@@ -47,8 +47,8 @@ module _ (t : Table) (w : TableWell t) (f : all F.itemFormed (live t) ≡ true) 
     abbrev gets : Option Item → ItemAnswer
     gets o = itemAnswerOf (maybe o says2 (λ x. says (Whole x)))
 
-    pub get-0 : (d : I.Item) (i : ℕ) → firstWith (T.hasSeq seq) (live t) ≡ some i → _≡_ {A = ItemAnswer} (record { refusal = 0; present = true; item = getD (t .items) i d }) (gets (first (hasSeq seq) (map itemView (live t))))
-    get-0 d i e = ap whole (read-item i d (place-in t w (T.hasSeq seq) i e)) ∙ sym (ap gets (first-at itemView (hasSeq seq) (T.hasSeq seq) (λ x. refl) zeroItem (live t) i e))
+    pub get-0 : (x : I.Item) (i : ℕ) → firstWith (T.hasSeq seq) (live t) ≡ some i → x ≡ getD (live t) i zeroItem → whole x ≡ gets (first (hasSeq seq) (map itemView (live t)))
+    get-0 x i e q = ap whole (q ∙ sym (item-back (getD (live t) i zeroItem) (formed-at i (place-in t w (T.hasSeq seq) i e)))) ∙ sym (ap gets (first-at itemView (hasSeq seq) (T.hasSeq seq) (λ x. refl) zeroItem (live t) i e))
 
     pub get-2 : firstWith (T.hasSeq seq) (live t) ≡ none → itemAt 2 none ≡ gets (first (hasSeq seq) (map itemView (live t)))
     get-2 e = sym (ap gets (first-none itemView (hasSeq seq) (T.hasSeq seq) (λ x. refl) (live t) e))
@@ -75,11 +75,8 @@ module _ (t : Table) (w : TableWell t) (f : all F.itemFormed (live t) ≡ true) 
         let q = item-parts x e .2 in
         λ i. record { refusal = 0; present = true; «has_path» = sym (present-given (x .«has_path») (x .path)) i; seq = x .seq; path = sym (path-back (x .«has_path») (x .path) q) i }
 
-    pub find-0 : (d : I.Item) (i : ℕ) → firstWith (T.hasCid cid) (live t) ≡ some i
-        → _≡_ {A = FoundAnswer} (record { refusal = 0; present = true; «has_path» = getD (t .items) i d .«has_path»; seq = getD (t .items) i d .seq; path = getD (t .items) i d .path }) (finds (first (hasCid cid) (map itemView (live t))))
-    find-0 d i e =
-        let h = place-in t w (T.hasCid cid) i e in
-        ap seen (sym (item-at t w i d h)) ∙ seen-is (getD (live t) i zeroItem) (formed-at i h) ∙ sym (ap finds (first-at itemView (hasCid cid) (T.hasCid cid) (λ x. refl) zeroItem (live t) i e))
+    pub find-0 : (x : I.Item) (i : ℕ) → firstWith (T.hasCid cid) (live t) ≡ some i → x ≡ getD (live t) i zeroItem → seen x ≡ finds (first (hasCid cid) (map itemView (live t)))
+    find-0 x i e q = ap seen q ∙ seen-is (getD (live t) i zeroItem) (formed-at i (place-in t w (T.hasCid cid) i e)) ∙ sym (ap finds (first-at itemView (hasCid cid) (T.hasCid cid) (λ x. refl) zeroItem (live t) i e))
 
     pub find-none : firstWith (T.hasCid cid) (live t) ≡ none → foundAt 0 none ≡ finds (first (hasCid cid) (map itemView (live t)))
     find-none e = sym (ap finds (first-none itemView (hasCid cid) (T.hasCid cid) (λ x. refl) (live t) e))
@@ -93,7 +90,7 @@ module _ (q : Queue) (w : QueueWell q) where
   pub next-none : q .count ≤ 0 → numberedAt 0 none ≡ numberedAt 0 (front (entries q))
   next-none h = sym (ap (numberedAt 0) (front-none (entries q) (omega (arith, entries-long q w))))
 
-module _ (t : Table) (w : TableWell t) (rpt seq : ℕ) where
+module _ (t : Table) (rpt seq : ℕ) where
   abbrev frames : Option Item → FrameAnswer
   frames o = frameOf (maybe o says2 (λ x. maybe (x .token) says2 (λ k. says (Frame seq rpt (x .cid) k))))
 
@@ -101,10 +98,10 @@ module _ (t : Table) (w : TableWell t) (rpt seq : ℕ) where
   abbrev pub framed : Bool → I.Item → FrameAnswer
   framed b x = frameOf (maybe (given b (x .token .bytes)) says2 (λ k. says (Frame seq rpt (x .cid) k)))
 
-  pub frame-some : (d : I.Item) (i : ℕ) (b : Bool) → firstWith (T.hasSeq seq) (live t) ≡ some i → getD (t .items) i d .token .present ≡ b → framed b (getD (t .items) i d) ≡ frames (first (hasSeq seq) (map itemView (live t)))
-  frame-some d i b e q =
-      ap (λ (z : Bool). framed z (getD (t .items) i d)) (sym q)
-      ∙ ap (λ (x : I.Item). framed (x .token .present) x) (sym (item-at t w i d (place-in t w (T.hasSeq seq) i e)))
+  pub frame-some : (x : I.Item) (i : ℕ) (b : Bool) → firstWith (T.hasSeq seq) (live t) ≡ some i → x ≡ getD (live t) i zeroItem → x .token .present ≡ b → framed b x ≡ frames (first (hasSeq seq) (map itemView (live t)))
+  frame-some x i b e q p =
+      ap (λ (z : Bool). framed z x) (sym p)
+      ∙ ap (λ (y : I.Item). framed (y .token .present) y) q
       ∙ sym (ap frames (first-at itemView (hasSeq seq) (T.hasSeq seq) (λ x. refl) zeroItem (live t) i e))
 
   pub frame-none : firstWith (T.hasSeq seq) (live t) ≡ none → frameAt 2 none ≡ frames (first (hasSeq seq) (map itemView (live t)))

@@ -22,9 +22,8 @@ use Rattle.ids.specs.Puts.{putInitial, putLimit}
 use Rattle.tables.specs.declared.items.Item as I
 
 -- one item of its form in a table
-pub one-item : (x : I.Item) (none one : Table) → tokenFormed (x .token) ≡ true → pathFormed (x .«has_path») (x .path) ≡ true → none ≡ tableOf [] → one ≡ tableOf (live none ++ (x ∷ []))
-    → one ≡ tableOf (map itemOf (itemView x ∷ []))
-one-item x none one t p e q = q ∙ ap (λ (u : Table). tableOf (live u ++ (x ∷ []))) e ∙ ap (λ (y : I.Item). tableOf (y ∷ [])) (sym (item-is x t p))
+pub one-item : (x : I.Item) (one : Table) → tokenFormed (x .token) ≡ true → pathFormed (x .«has_path») (x .path) ≡ true → one ≡ tableOf (x ∷ []) → one ≡ tableOf (map itemOf (itemView x ∷ []))
+one-item x one t p e = e ∙ ap (λ (y : I.Item). tableOf (y ∷ [])) (sym (item-is x t p))
 
 pub initial-0 : (s : Ids) → wellFormed s ≡ true → (cid : ConnectionId) (token : Token) (has : Bool) (path : ℕ) (t : Table)
     → t ≡ tableOf (map itemOf (record { cid = cid; seq = 0; token = tokenView token; path = given has path } ∷ []))

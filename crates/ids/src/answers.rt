@@ -1,6 +1,8 @@
 // What the calls give beside the plain answers of `values`. An answer begins with the refusal's number, and on a refusal every other field is zero.
 use ids_state::Ids;
 use tables::Item;
+use tables::Queue;
+use tables::Table;
 use tables::Used;
 use values::ConnectionId;
 use values::Counted;
@@ -65,4 +67,27 @@ pub struct FreedOut {
 pub struct RetiredOut {
     pub ids: Ids,
     pub answer: RetiredAnswer,
+}
+
+// What the calls of acts.rt give: the fields that the call may change, and its answer.
+pub struct TableOut {
+    pub table: Table,
+    pub answer: Done,
+}
+
+pub struct QueueOut {
+    pub queue: Queue,
+    pub answer: Done,
+}
+
+pub struct InitialOut {
+    pub destination: Table,
+    pub zero_destination: bool,
+    pub answer: Done,
+}
+
+pub struct LimitOut {
+    pub slimit: u64,
+    pub capacity: usize,
+    pub answer: Done,
 }

@@ -7,6 +7,7 @@ ghost use Rattle.values.specs.Cid.{idFormed};
 ghost use Rattle.values.specs.Token.{tokenFormed, tokenView};
 ghost use Rattle.ids_rules.specs.Calls as C;
 ghost use Rattle.ids.specs.Reading.{countedCall, doneCall, flaggedCall, foundCall, frameCall, freedCall, freshIds, issuedCall, itemCall, numberedCall, pathFormed, retiredCall};
+use crate::acts;
 use crate::adds;
 use crate::answers::DoneOut;
 use crate::answers::FoundAnswer;
@@ -54,7 +55,11 @@ pub fn set_initial_dcid(s: Ids, cid: ConnectionId, token: Token, has: bool, path
     let k = values::token_formed(token);
     let args = c & k & (has | (path == 0));
     if f & args {
-        starts::initial_step(s, cid, token, has, path)
+        let t = starts::only(cid, token, has, path);
+        let mut u = s;
+        u.destination = t;
+        u.zero_destination = cid.len == 0;
+        marks::done(u, ACCEPTED)
     } else {
         marks::done(s, MALFORMED)
     }
@@ -64,11 +69,12 @@ pub fn set_initial_dcid(s: Ids, cid: ConnectionId, token: Token, has: bool, path
 pub fn set_scid_limit(s: Ids, n: u64) -> DoneOut
     ensures { λ r. ⌜ r ≡ doneCall s true (C.SetScidLimit n) ⌝ }
 {
-    if ids_state::formed(s) {
-        starts::limit_step(s, n)
-    } else {
-        marks::done(s, MALFORMED)
-    }
+    let a = acts::set_scid_limit_at(s, n);
+    let mut u = s;
+    u.slimit = a.slimit;
+    u.capacity = a.capacity;
+    let d = a.answer;
+    DoneOut { ids: u, answer: d }
 }
 
 // The source item with the sequence.
@@ -113,22 +119,24 @@ pub fn find_scid(s: Ids, cid: ConnectionId) -> FoundAnswer
 pub fn mark_scid_used(s: Ids, seq: u64, path: u64) -> DoneOut
     ensures { λ r. ⌜ r ≡ doneCall s true (C.MarkScidUsed seq path) ⌝ }
 {
-    if ids_state::formed(s) {
-        marks::scid_used_step(s, seq, path)
-    } else {
-        marks::done(s, MALFORMED)
-    }
+    let a = acts::mark_scid_used_at(s, seq, path);
+    let t = a.table;
+    let mut u = s;
+    u.source = t;
+    let d = a.answer;
+    DoneOut { ids: u, answer: d }
 }
 
 // The destination item is used by the path.
 pub fn mark_dcid_used(s: Ids, seq: u64, path: u64) -> DoneOut
     ensures { λ r. ⌜ r ≡ doneCall s true (C.MarkDcidUsed seq path) ⌝ }
 {
-    if ids_state::formed(s) {
-        marks::dcid_used_step(s, seq, path)
-    } else {
-        marks::done(s, MALFORMED)
-    }
+    let a = acts::mark_dcid_used_at(s, seq, path);
+    let t = a.table;
+    let mut u = s;
+    u.destination = t;
+    let d = a.answer;
+    DoneOut { ids: u, answer: d }
 }
 
 // How many source IDs no path uses.
@@ -231,7 +239,12 @@ pub fn mark_scid_to_advertise(s: Ids, seq: u64, on: bool) -> DoneOut
     ensures { λ r. ⌜ r ≡ doneCall s true (C.MarkScidToAdvertise seq on) ⌝ }
 {
     if ids_state::formed(s) {
-        marks::advertise_step(s, seq, on)
+        let q = s.advertise;
+        let p = marks::queue_step(q, seq, on);
+        let marked = p.queue;
+        let mut u = s;
+        u.advertise = marked;
+        marks::done(u, p.answer.refusal)
     } else {
         marks::done(s, MALFORMED)
     }
@@ -242,7 +255,12 @@ pub fn mark_dcid_to_retire(s: Ids, seq: u64, on: bool) -> DoneOut
     ensures { λ r. ⌜ r ≡ doneCall s true (C.MarkDcidToRetire seq on) ⌝ }
 {
     if ids_state::formed(s) {
-        marks::to_retire_step(s, seq, on)
+        let q = s.retire;
+        let p = marks::queue_step(q, seq, on);
+        let marked = p.queue;
+        let mut u = s;
+        u.retire = marked;
+        marks::done(u, p.answer.refusal)
     } else {
         marks::done(s, MALFORMED)
     }

@@ -14,7 +14,6 @@ use crate::answers::FreedOut;
 use crate::answers::IssuedOut;
 use crate::marks;
 use ids_state::Ids;
-use tables::Found;
 use tables::Item;
 use tables::Lowest;
 use values::ConnectionId;
@@ -169,14 +168,12 @@ pub fn retire_scid_step(s: Ids, seq: u64, packet: ConnectionId) -> FreedOut
         return none_freed(s, PROTOCOL_VIOLATION);
     }
     let t = s.source;
-    let f = tables::find_seq(t, seq);
-    match f {
-        Found::At(i) => {
-            if t.count <= 1 {
-                return none_freed(s, INTERNAL_ERROR);
-            }
-            take_step(s, seq, i, packet)
-        }
-        Found::Nothing => none_freed(s, ACCEPTED),
+    let f = tables::seek_seq(t, seq);
+    if !f.present {
+        return none_freed(s, ACCEPTED);
     }
+    if t.count <= 1 {
+        return none_freed(s, INTERNAL_ERROR);
+    }
+    take_step(s, seq, f.place, packet)
 }

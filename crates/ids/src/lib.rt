@@ -1,5 +1,7 @@
-// The connection IDs of a QUIC endpoint, after the Rust's cid.rs. calls.rt has the published calls; what a call does to a well-formed state stands in the
-// modules beside it. Every contract is an equation with the definition of `ids_rules` on the view of the state (specs/Reading.antt).
+// The connection IDs of a QUIC endpoint, after the Rust's cid.rs. calls.rt has the published calls; acts.rt has those that change the state, as what they
+// change; what a call does to a well-formed state stands in the modules beside them. Every contract is an equation with the definition of `ids_rules` on the
+// view of the state (specs/Reading.antt), or with one on a table or a queue (specs/Acts.antt).
+mod acts;
 mod adds;
 mod answers;
 mod calls;
@@ -8,14 +10,24 @@ mod marks;
 mod reads;
 mod starts;
 
+pub use acts::mark_dcid_to_retire_at;
+pub use acts::mark_dcid_used_at;
+pub use acts::mark_scid_to_advertise_at;
+pub use acts::mark_scid_used_at;
+pub use acts::set_initial_dcid_at;
+pub use acts::set_scid_limit_at;
 pub use answers::DoneOut;
 pub use answers::FoundAnswer;
 pub use answers::FrameAnswer;
 pub use answers::FreedOut;
+pub use answers::InitialOut;
 pub use answers::IssuedOut;
 pub use answers::ItemAnswer;
+pub use answers::LimitOut;
+pub use answers::QueueOut;
 pub use answers::RetiredAnswer;
 pub use answers::RetiredOut;
+pub use answers::TableOut;
 pub use calls::add_dcid;
 pub use calls::add_scid;
 pub use calls::create_new_connection_id_frame;

@@ -1,16 +1,19 @@
 // The marks: sequences to advertise and to retire, and the path that uses an item.
 ghost use mathlib.Core.Path.{_≡_};
-ghost use mathlib.Core.Bool.{false, true, _&&_};
+ghost use mathlib.Core.Bool.{false, _&&_};
 ghost use lib.Dec.{leb};
+ghost use Rattle.lists.specs.Defs.{firstWith};
 ghost use Rattle.values.specs.Limits.{queueSlots};
-ghost use Rattle.tables.specs.Table.{QueueWell, entries, queueOf};
-ghost use Rattle.ids_state.specs.Formed.{wellFormed};
+ghost use Rattle.tables.specs.Table.{QueueWell, TableWell, entries, hasSeq, live, queueOf};
 ghost use Rattle.ids_rules.specs.Steps as S;
-ghost use Rattle.ids.specs.Reading.{doneAt, doneOf, view};
+ghost use Rattle.ids.specs.Reading.{doneAt};
+ghost use Rattle.ids.specs.Acts.{markedAt, queueAt, tableAt, usedAt};
 use crate::answers::DoneOut;
+use crate::answers::QueueOut;
+use crate::answers::TableOut;
 use ids_state::Ids;
-use tables::Found;
 use tables::Queue;
+use tables::Table;
 use values::Done;
 use values::limits::QUEUE_SLOTS;
 use values::refusals::ACCEPTED;
@@ -38,66 +41,46 @@ pub fn marked(q: Queue, seq: u64, on: bool) -> Queue
     }
 }
 
-pub fn advertise_step(s: Ids, seq: u64, on: bool) -> DoneOut
-    requires { ⌜ wellFormed s ≡ true ⌝ }
-    ensures { λ r. ⌜ r ≡ doneOf (S.markScidToAdvertise seq on (view s)) ⌝ }
+pub fn table_done(t: Table, n: u8) -> TableOut
+    ensures { λ r. ⌜ r ≡ tableAt n t ⌝ }
 {
-    let q = s.advertise;
+    TableOut {
+        table: t,
+        answer: Done { refusal: n },
+    }
+}
+
+pub fn queue_done(q: Queue, n: u8) -> QueueOut
+    ensures { λ r. ⌜ r ≡ queueAt n q ⌝ }
+{
+    QueueOut {
+        queue: q,
+        answer: Done { refusal: n },
+    }
+}
+
+// The queue with the sequence marked; full, it stays.
+pub fn queue_step(q: Queue, seq: u64, on: bool) -> QueueOut
+    requires { ⌜ QueueWell q ⌝ }
+    ensures { λ r. ⌜ r ≡ markedAt seq on q (on && leb queueSlots (q .count)) ⌝ }
+{
     let full = on & (QUEUE_SLOTS <= q.count);
     if full {
-        return done(s, NO_SLOT);
+        return queue_done(q, NO_SLOT);
     }
     let p = marked(q, seq, on);
-    let mut u = s;
-    u.advertise = p;
-    done(u, ACCEPTED)
+    queue_done(p, ACCEPTED)
 }
 
-pub fn to_retire_step(s: Ids, seq: u64, on: bool) -> DoneOut
-    requires { ⌜ wellFormed s ≡ true ⌝ }
-    ensures { λ r. ⌜ r ≡ doneOf (S.markDcidToRetire seq on (view s)) ⌝ }
+// The table with the item put on the path.
+pub fn used_step(t: Table, seq: u64, path: u64) -> TableOut
+    requires { ⌜ TableWell t ⌝ }
+    ensures { λ r. ⌜ r ≡ usedAt path t (firstWith (hasSeq seq) (live t)) ⌝ }
 {
-    let q = s.retire;
-    let full = on & (QUEUE_SLOTS <= q.count);
-    if full {
-        return done(s, NO_SLOT);
+    let f = tables::seek_seq(t, seq);
+    if f.present {
+        let p = tables::set_path(t, f.place, path);
+        return table_done(p, ACCEPTED);
     }
-    let p = marked(q, seq, on);
-    let mut u = s;
-    u.retire = p;
-    done(u, ACCEPTED)
-}
-
-pub fn scid_used_step(s: Ids, seq: u64, path: u64) -> DoneOut
-    requires { ⌜ wellFormed s ≡ true ⌝ }
-    ensures { λ r. ⌜ r ≡ doneOf (S.markScidUsed seq path (view s)) ⌝ }
-{
-    let t = s.source;
-    let f = tables::find_seq(t, seq);
-    match f {
-        Found::At(i) => {
-            let p = tables::set_path(t, i, path);
-            let mut u = s;
-            u.source = p;
-            done(u, ACCEPTED)
-        }
-        Found::Nothing => done(s, INTERNAL_ERROR),
-    }
-}
-
-pub fn dcid_used_step(s: Ids, seq: u64, path: u64) -> DoneOut
-    requires { ⌜ wellFormed s ≡ true ⌝ }
-    ensures { λ r. ⌜ r ≡ doneOf (S.markDcidUsed seq path (view s)) ⌝ }
-{
-    let t = s.destination;
-    let f = tables::find_seq(t, seq);
-    match f {
-        Found::At(i) => {
-            let p = tables::set_path(t, i, path);
-            let mut u = s;
-            u.destination = p;
-            done(u, ACCEPTED)
-        }
-        Found::Nothing => done(s, INTERNAL_ERROR),
-    }
+    table_done(t, INTERNAL_ERROR)
 }

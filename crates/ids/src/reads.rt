@@ -14,7 +14,6 @@ ghost use Rattle.ids.specs.Reading.{countedAt, flaggedAt, foundAnswerOf,
 use crate::answers::FoundAnswer;
 use crate::answers::FrameAnswer;
 use crate::answers::ItemAnswer;
-use tables::Found;
 use tables::Lowest;
 use tables::Queue;
 use tables::Table;
@@ -69,18 +68,16 @@ pub fn get(t: Table, seq: u64) -> ItemAnswer
     requires { ⌜ TableWell t × (all F.itemFormed (live t) ≡ true) ⌝ }
     ensures { λ r. ⌜ r ≡ itemAnswerOf (maybe (first (hasSeq seq) (map itemView (live t))) says2 (λ x. says (W.Whole x))) ⌝ }
 {
-    let f = tables::find_seq(t, seq);
-    match f {
-        Found::At(i) => {
-            let x = t.items[i];
-            ItemAnswer {
-                refusal: ACCEPTED,
-                present: true,
-                item: x,
-            }
-        }
-        Found::Nothing => no_item(INTERNAL_ERROR),
+    let f = tables::seek_seq(t, seq);
+    if f.present {
+        let x = f.item;
+        return ItemAnswer {
+            refusal: ACCEPTED,
+            present: true,
+            item: x,
+        };
     }
+    no_item(INTERNAL_ERROR)
 }
 
 // The item at a place.
@@ -118,20 +115,18 @@ pub fn find(t: Table, cid: ConnectionId) -> FoundAnswer
     requires { ⌜ TableWell t × (all F.itemFormed (live t) ≡ true) ⌝ }
     ensures { λ r. ⌜ r ≡ foundAnswerOf (says (maybe (first (hasCid cid) (map itemView (live t))) W.Nothing (λ x. W.Found (x .seq) (x .path)))) ⌝ }
 {
-    let f = tables::find_cid(t, cid);
-    match f {
-        Found::At(i) => {
-            let x = t.items[i];
-            FoundAnswer {
-                refusal: ACCEPTED,
-                present: true,
-                has_path: x.has_path,
-                seq: x.seq,
-                path: x.path,
-            }
-        }
-        Found::Nothing => not_found(ACCEPTED),
+    let f = tables::seek_cid(t, cid);
+    if f.present {
+        let x = f.item;
+        return FoundAnswer {
+            refusal: ACCEPTED,
+            present: true,
+            has_path: x.has_path,
+            seq: x.seq,
+            path: x.path,
+        };
     }
+    not_found(ACCEPTED)
 }
 
 // The front of the queue.
@@ -170,26 +165,24 @@ pub fn frame(t: Table, rpt: u64, seq: u64) -> FrameAnswer
     requires { ⌜ TableWell t ⌝ }
     ensures { λ r. ⌜ r ≡ frameOf (maybe (first (hasSeq seq) (map itemView (live t))) says2 (λ x. maybe (x .token) says2 (λ k. says (W.Frame seq rpt (x .cid) k)))) ⌝ }
 {
-    let f = tables::find_seq(t, seq);
-    match f {
-        Found::At(i) => {
-            let x = t.items[i];
-            let k = x.token;
-            if !k.present {
-                return no_frame(INTERNAL_ERROR);
-            }
-            let cid = x.cid;
-            let bytes = k.bytes;
-            FrameAnswer {
-                refusal: ACCEPTED,
-                seq: seq,
-                retire_prior_to: rpt,
-                cid: cid,
-                token: bytes,
-            }
+    let f = tables::seek_seq(t, seq);
+    if f.present {
+        let x = f.item;
+        let k = x.token;
+        if !k.present {
+            return no_frame(INTERNAL_ERROR);
         }
-        Found::Nothing => no_frame(INTERNAL_ERROR),
+        let cid = x.cid;
+        let bytes = k.bytes;
+        return FrameAnswer {
+            refusal: ACCEPTED,
+            seq: seq,
+            retire_prior_to: rpt,
+            cid: cid,
+            token: bytes,
+        };
     }
+    no_frame(INTERNAL_ERROR)
 }
 
 // How many items no path uses.

@@ -1,22 +1,20 @@
-// The first state, the first destination ID, and the source limit.
+// The first state, a table with one ID, and the source limit.
 ghost use mathlib.Core.Path.{_≡_};
 ghost use mathlib.Core.Bool.{true};
+ghost use mathlib.Core.List.{[], _∷_};
 ghost use Prim.Native.Nat.{max, min};
-ghost use Rattle.lists.specs.Defs.{given};
 ghost use Rattle.values.specs.Limits.{maxCidsCount, minScidLimit};
 ghost use Rattle.values.specs.Token.{tokenFormed, tokenView};
-ghost use Rattle.ids_state.specs.Formed.{wellFormed};
 ghost use Rattle.ids_rules.specs.Steps as S;
-ghost use Rattle.ids.specs.Reading.{doneOf, idsOf, pathFormed, view};
-use crate::answers::DoneOut;
-use crate::marks;
+ghost use Rattle.tables.specs.Table.{tableOf};
+ghost use Rattle.ids.specs.Reading.{idsOf};
 use ids_state::Ids;
 use tables::Item;
+use tables::Table;
 use values::ConnectionId;
 use values::Token;
 use values::limits::MAX_CIDS_COUNT;
 use values::limits::MIN_SCID_LIMIT;
-use values::refusals::ACCEPTED;
 
 pub fn zero_state() -> Ids
     ensures { λ r. ⌜ r ≡ idsOf S.zeroView ⌝ }
@@ -39,19 +37,27 @@ pub fn zero_state() -> Ids
     }
 }
 
-pub fn first_state(dlimit: u64, cid: ConnectionId, path: u64, token: Token) -> Ids
-    requires { ⌜ tokenFormed token ≡ true ⌝ }
-    ensures { λ r. ⌜ r ≡ idsOf (S.fresh dlimit cid path (tokenView token)) ⌝ }
+// A table with one item, of sequence 0.
+pub fn only(cid: ConnectionId, token: Token, has: bool, path: u64) -> Table
+    ensures { λ r. ⌜ r ≡ tableOf (record { seq = 0; path = path; cid = cid; token = token; «has_path» = has } ∷ []) ⌝ }
 {
     let x = Item {
         seq: 0,
         path: path,
         cid: cid,
         token: token,
-        has_path: true,
+        has_path: has,
     };
     let none = tables::no_items();
-    let one = tables::append(none, x);
+    tables::append(none, x)
+}
+
+pub fn first_state(dlimit: u64, cid: ConnectionId, path: u64, token: Token) -> Ids
+    requires { ⌜ tokenFormed token ≡ true ⌝ }
+    ensures { λ r. ⌜ r ≡ idsOf (S.fresh dlimit cid path (tokenView token)) ⌝ }
+{
+    let one = only(cid, token, true, path);
+    let none = tables::no_items();
     let q = tables::no_entries();
     Ids {
         source: one,
@@ -69,27 +75,8 @@ pub fn first_state(dlimit: u64, cid: ConnectionId, path: u64, token: Token) -> I
     }
 }
 
-pub fn initial_step(s: Ids, cid: ConnectionId, token: Token, has: bool, path: u64) -> DoneOut
-    requires { ⌜ (wellFormed s ≡ true) × (tokenFormed token ≡ true) × (pathFormed has path ≡ true) ⌝ }
-    ensures { λ r. ⌜ r ≡ doneOf (S.setInitialDcid cid (tokenView token) (given has path) (view s)) ⌝ }
-{
-    let x = Item {
-        seq: 0,
-        path: path,
-        cid: cid,
-        token: token,
-        has_path: has,
-    };
-    let none = tables::no_items();
-    let one = tables::append(none, x);
-    let mut u = s;
-    u.destination = one;
-    u.zero_destination = cid.len == 0;
-    marks::done(u, ACCEPTED)
-}
-
 // Between 2 and 16.
-fn clamped(n: u64) -> u64
+pub fn clamped(n: u64) -> u64
     ensures { λ r. ⌜ r ≡ max minScidLimit (min n maxCidsCount) ⌝ }
 {
     if n < MIN_SCID_LIMIT {
@@ -101,21 +88,8 @@ fn clamped(n: u64) -> u64
     n
 }
 
-fn larger(a: usize, b: usize) -> usize
+pub fn larger(a: usize, b: usize) -> usize
     ensures { λ r. ⌜ r ≡ max a b ⌝ }
 {
     if a < b { b } else { a }
-}
-
-pub fn limit_step(s: Ids, n: u64) -> DoneOut
-    requires { ⌜ wellFormed s ≡ true ⌝ }
-    ensures { λ r. ⌜ r ≡ doneOf (S.setScidLimit n (view s)) ⌝ }
-{
-    let limit = clamped(n);
-    let wide = (2 * limit - 1) as usize;
-    let capacity = larger(s.capacity, wide);
-    let mut u = s;
-    u.slimit = limit;
-    u.capacity = capacity;
-    marks::done(u, ACCEPTED)
 }

@@ -10,18 +10,19 @@ use native.Mathlib.Nat.{not-suc-le-zero, le-of-suc-le-suc}
 use lib.Dec.{eqb}
 use lib.ListN.{length, drop, set, getD, replicate, length-append, length-set, drop-of-length-le}
 use lib.Seq.{drop-cons, getD-take}
-use Rattle.lists.specs.Defs.{without, padded, over}
+use Rattle.lists.specs.Defs.{firstWith, without, padded, over}
+use Rattle.lists.specs.Search.{first-below}
 use Rattle.lists.specs.Held.{take-padded, padded-push, held-length, held-count, held-push, held-more, held-of, length-without, shift-done, getD-in}
 use Rattle.values.specs.Limits.{tableSlots, queueSlots}
 use Rattle.values.specs.Cid.{sameId}
 use Rattle.values.specs.declared.used.UsedSeq.{UsedSeq}
-use Rattle.tables.specs.Table.{zeroItem, zeroPair, live, entries, tableOf, queueOf, usedOf, TableWell, QueueWell, foundOf, lowestOf, onPath, sharedToken, clashing, repeating, judged, firstJudged}
+use Rattle.tables.specs.Table.{zeroItem, zeroPair, live, entries, tableOf, queueOf, usedOf, TableWell, QueueWell, soughtOf, lowestOf, onPath, sharedToken, clashing, repeating, judged, firstJudged}
 use Rattle.tables.specs.declared.sequences.Queue.{Queue}
 use Rattle.tables.specs.declared.items.Item.{Item}
 use Rattle.tables.specs.declared.items.Table.{Table}
 use Rattle.tables.specs.declared.lower.Used.{Used}
-use Rattle.tables.specs.declared.lookup.Found.the-variants.{At, Nothing}
 use Rattle.tables.specs.declared.lookup.Lowest.the-variants.{Seq, Missing}
+use Rattle.tables.specs.declared.lookup.Sought.{Sought}
 
 -- ---- queues
 
@@ -117,13 +118,41 @@ path-is t w i d p h = λ k. record { items = items k; count = count k }
 
 -- ---- what a search answered
 
-pub found-at : (o : Option ℕ) (i : ℕ) → foundOf o ≡ At i → o ≡ some i
-found-at none i e = let z : _≡_ {A = ℕ} 0 1 = cc in absurd (omega arith)
-found-at (some j) i e = let q : j ≡ i = cc in ap some q
+-- the item that the code reads at the place
+pub sought-here : (t : Table) (w : TableWell t) (o : Option ℕ) (i : ℕ) (d : Item) → i < t .count → o ≡ some i → _≡_ {A = Sought} (record { item = getD (t .items) i d; place = i; present = true }) (soughtOf t o)
+sought-here t w o i d h e = ap {B = Sought} (λ (x : Item). record { item = x; place = i; present = true }) (sym (item-at t w i d h)) ∙ ap (soughtOf t) (sym e)
 
-pub found-none : (o : Option ℕ) → foundOf o ≡ Nothing → o ≡ none
-found-none none e = refl
-found-none (some j) e = let z : _≡_ {A = ℕ} 0 1 = cc in absurd (omega arith)
+pub sought-nowhere : (t : Table) (o : Option ℕ) (z : Item) → z ≡ zeroItem → o ≡ none → _≡_ {A = Sought} (record { item = z; place = 0; present = false }) (soughtOf t o)
+sought-nowhere t o z q e = ap {B = Sought} (λ (x : Item). record { item = x; place = 0; present = false }) q ∙ ap (soughtOf t) (sym e)
+
+-- what was found stands at its place, which is the first
+module _ (t : Table) (p : Item → Bool) (r : Sought) (e : r ≡ soughtOf t (firstWith p (live t))) where
+  seen : (b : Bool) → r .present ≡ b → soughtOf t (firstWith p (live t)) .present ≡ b
+  seen b q = sym (ap (λ (x : Sought). x .present) e) ∙ q
+
+  pub sought-at : r .present ≡ true → firstWith p (live t) ≡ some (r .place)
+  sought-at q = go (firstWith p (live t)) (seen true q) ∙ ap (λ (x : Sought). some (x .place)) (sym e)
+    where
+      go : (o : Option ℕ) → soughtOf t o .present ≡ true → o ≡ some (soughtOf t o .place)
+      go none h = let z : _≡_ {A = ℕ} 0 1 = cc in absurd (omega arith)
+      go (some i) h = refl
+
+  pub sought-item : r .present ≡ true → r .item ≡ getD (live t) (r .place) zeroItem
+  sought-item q = ap (λ (x : Sought). x .item) e ∙ go (firstWith p (live t)) (seen true q) ∙ ap (λ (x : Sought). getD (live t) (x .place) zeroItem) (sym e)
+    where
+      go : (o : Option ℕ) → soughtOf t o .present ≡ true → soughtOf t o .item ≡ getD (live t) (soughtOf t o .place) zeroItem
+      go none h = let z : _≡_ {A = ℕ} 0 1 = cc in absurd (omega arith)
+      go (some i) h = refl
+
+  pub sought-in : TableWell t → r .present ≡ true → r .place < t .count
+  sought-in w q = omega (arith, first-below p (live t) (r .place) (sought-at q), live-long t w)
+
+  pub sought-none : r .present ≡ false → firstWith p (live t) ≡ none
+  sought-none q = go (firstWith p (live t)) (seen false q)
+    where
+      go : (o : Option ℕ) → soughtOf t o .present ≡ false → o ≡ none
+      go none h = refl
+      go (some i) h = let z : _≡_ {A = ℕ} 0 1 = cc in absurd (omega arith)
 
 pub lowest-at : (o : Option ℕ) (n : ℕ) → lowestOf o ≡ Seq n → o ≡ some n
 lowest-at none n e = let z : _≡_ {A = ℕ} 0 1 = cc in absurd (omega arith)

@@ -4,7 +4,7 @@ use mathlib.Core.List.{List, [], _∷_}
 use mathlib.Core.Bool.{Bool, true, false, not, cond, _&&_, _||_}
 use mathlib.Core.Option.{Option, none, some}
 use lib.Dec.{eqb, leb}
-use lib.ListN.{length, take}
+use lib.ListN.{length, take, getD}
 use Rattle.lists.specs.Defs.{padded, same}
 use Rattle.lists.specs.Held.{Held}
 use Rattle.values.specs.Limits.{tableSlots, queueSlots}
@@ -17,10 +17,9 @@ use Rattle.tables.specs.declared.items.Item.{Item}
 use Rattle.tables.specs.declared.items.Table.{Table}
 use Rattle.tables.specs.declared.sequences.Queue.{Queue}
 use Rattle.tables.specs.declared.lower.Used.{Used}
-use Rattle.tables.specs.declared.lookup.Found.{Found}
-use Rattle.tables.specs.declared.lookup.Found.the-variants.{At, Nothing}
 use Rattle.tables.specs.declared.lookup.Lowest.{Lowest}
 use Rattle.tables.specs.declared.lookup.Lowest.the-variants.{Seq, Missing}
+use Rattle.tables.specs.declared.lookup.Sought.{Sought}
 
 -- ---- reading and building
 
@@ -53,9 +52,9 @@ QueueWell q = Held queueSlots 0 (q .items) (q .count)
 
 -- ---- what a search gives
 
-abbrev pub foundOf : Option ℕ → Found
-foundOf none = Nothing
-foundOf (some i) = At i
+abbrev pub soughtOf : Table → Option ℕ → Sought
+soughtOf t none = record { item = zeroItem; place = 0; present = false }
+soughtOf t (some i) = record { item = getD (live t) i zeroItem; place = i; present = true }
 
 abbrev pub lowestOf : Option ℕ → Lowest
 lowestOf none = Missing

@@ -1,16 +1,19 @@
-// What the calls ask of a table: where an item stands, how many are free, the lowest sequence, and what add_dcid asks before it adds one.
+// What the calls ask of a table: which item stands where, how many are free, the lowest sequence, and what add_dcid asks before it adds one.
 ghost use mathlib.Core.Path.{_≡_};
 ghost use mathlib.Core.Option.{some};
 ghost use lib.ListN.{length};
 ghost use Rattle.lists.specs.Defs.{firstWith, given, keep, least, less, picked};
-ghost use Rattle.tables.specs.Table.{TableWell, atLeast, firstJudged, foundOf, free, hasCid, hasSeq, judged, live, lowestOf, seqOf};
+ghost use Rattle.tables.specs.Table.{TableWell, atLeast, firstJudged, free, hasCid, hasSeq, judged, live, lowestOf, seqOf, soughtOf};
+use crate::items;
 use crate::items::Item;
 use crate::items::Table;
 use values::ConnectionId;
 
-pub enum Found {
-    At(usize),
-    Nothing,
+// An item and its place, where one is present.
+pub struct Sought {
+    pub item: Item,
+    pub place: usize,
+    pub present: bool,
 }
 
 pub enum Lowest {
@@ -18,27 +21,36 @@ pub enum Lowest {
     Missing,
 }
 
-// The place of the first item with the sequence.
-pub fn find_seq(t: Table, seq: u64) -> Found
+// The first item with the sequence.
+pub fn seek_seq(t: Table, seq: u64) -> Sought
     requires { ⌜ TableWell t ⌝ }
-    ensures { λ r. ⌜ r ≡ foundOf (firstWith (hasSeq seq) (live t)) ⌝ }
+    ensures { λ r. ⌜ r ≡ soughtOf t (firstWith (hasSeq seq) (live t)) ⌝ }
 {
     let count = t.count;
     let mut i: usize = 0;
     while i < count {
-        let s = t.items[i].seq;
-        if seq == s {
-            return Found::At(i);
+        let x = t.items[i];
+        if seq == x.seq {
+            return Sought {
+                item: x,
+                place: i,
+                present: true,
+            };
         }
         i += 1;
     }
-    Found::Nothing
+    let zero = items::blank();
+    Sought {
+        item: zero,
+        place: 0,
+        present: false,
+    }
 }
 
-// The place of the first item with the ID.
-pub fn find_cid(t: Table, cid: ConnectionId) -> Found
+// The first item with the ID.
+pub fn seek_cid(t: Table, cid: ConnectionId) -> Sought
     requires { ⌜ TableWell t ⌝ }
-    ensures { λ r. ⌜ r ≡ foundOf (firstWith (hasCid cid) (live t)) ⌝ }
+    ensures { λ r. ⌜ r ≡ soughtOf t (firstWith (hasCid cid) (live t)) ⌝ }
 {
     let count = t.count;
     let mut i: usize = 0;
@@ -46,11 +58,20 @@ pub fn find_cid(t: Table, cid: ConnectionId) -> Found
         let x = t.items[i];
         let id = x.cid;
         if values::cid_eq(id, cid) {
-            return Found::At(i);
+            return Sought {
+                item: x,
+                place: i,
+                present: true,
+            };
         }
         i += 1;
     }
-    Found::Nothing
+    let zero = items::blank();
+    Sought {
+        item: zero,
+        place: 0,
+        present: false,
+    }
 }
 
 // How many items no path uses.

@@ -1,4 +1,5 @@
-// The published calls of the ids, over a state that the host lends: the answer is the call's answer, and the state is left as the call leaves it.
+// The published calls of the ids, over a state that the host lends: the answer is the call's answer, and the state is left as the call leaves it. Only the fields that a
+// call may change are stored.
 ghost use mathlib.Core.Path.{_≡_};
 ghost use mathlib.Core.Bool.{true, _&&_};
 ghost use Rattle.lists.specs.Defs.{given};
@@ -39,8 +40,9 @@ pub extern "C" fn vig_ids_set_initial_dcid(
 ) -> Done
     ensures { λ r. ⌜ (r ≡ (doneCall (now (t .entry)) (idFormed cid && tokenFormed token && pathFormed has path) (C.SetInitialDcid cid (tokenView token) (given has path))) .answer) × (now (t .exit) ≡ (doneCall (now (t .entry)) (idFormed cid && tokenFormed token && pathFormed has path) (C.SetInitialDcid cid (tokenView token) (given has path))) .ids) ⌝ }
 {
-    let a = ids::set_initial_dcid(*t, cid, token, has, path);
-    *t = a.ids;
+    let a = ids::set_initial_dcid_at(*t, cid, token, has, path);
+    t.destination = a.destination;
+    t.zero_destination = a.zero_destination;
     a.answer
 }
 
@@ -49,8 +51,9 @@ pub extern "C" fn vig_ids_set_initial_dcid(
 pub extern "C" fn vig_ids_set_scid_limit(t: &mut Ids, n: u64) -> Done
     ensures { λ r. ⌜ (r ≡ (doneCall (now (t .entry)) true (C.SetScidLimit n)) .answer) × (now (t .exit) ≡ (doneCall (now (t .entry)) true (C.SetScidLimit n)) .ids) ⌝ }
 {
-    let a = ids::set_scid_limit(*t, n);
-    *t = a.ids;
+    let a = ids::set_scid_limit_at(*t, n);
+    t.slimit = a.slimit;
+    t.capacity = a.capacity;
     a.answer
 }
 
@@ -83,8 +86,8 @@ pub extern "C" fn vig_ids_find_scid(t: &Ids, cid: ConnectionId) -> FoundAnswer
 pub extern "C" fn vig_ids_mark_scid_used(t: &mut Ids, seq: u64, path: u64) -> Done
     ensures { λ r. ⌜ (r ≡ (doneCall (now (t .entry)) true (C.MarkScidUsed seq path)) .answer) × (now (t .exit) ≡ (doneCall (now (t .entry)) true (C.MarkScidUsed seq path)) .ids) ⌝ }
 {
-    let a = ids::mark_scid_used(*t, seq, path);
-    *t = a.ids;
+    let a = ids::mark_scid_used_at(*t, seq, path);
+    t.source = a.table;
     a.answer
 }
 
@@ -93,8 +96,8 @@ pub extern "C" fn vig_ids_mark_scid_used(t: &mut Ids, seq: u64, path: u64) -> Do
 pub extern "C" fn vig_ids_mark_dcid_used(t: &mut Ids, seq: u64, path: u64) -> Done
     ensures { λ r. ⌜ (r ≡ (doneCall (now (t .entry)) true (C.MarkDcidUsed seq path)) .answer) × (now (t .exit) ≡ (doneCall (now (t .entry)) true (C.MarkDcidUsed seq path)) .ids) ⌝ }
 {
-    let a = ids::mark_dcid_used(*t, seq, path);
-    *t = a.ids;
+    let a = ids::mark_dcid_used_at(*t, seq, path);
+    t.destination = a.table;
     a.answer
 }
 
@@ -171,8 +174,8 @@ pub extern "C" fn vig_ids_retire_scid(t: &mut Ids, seq: u64, packet: ConnectionI
 pub extern "C" fn vig_ids_mark_scid_to_advertise(t: &mut Ids, seq: u64, on: bool) -> Done
     ensures { λ r. ⌜ (r ≡ (doneCall (now (t .entry)) true (C.MarkScidToAdvertise seq on)) .answer) × (now (t .exit) ≡ (doneCall (now (t .entry)) true (C.MarkScidToAdvertise seq on)) .ids) ⌝ }
 {
-    let a = ids::mark_scid_to_advertise(*t, seq, on);
-    *t = a.ids;
+    let a = ids::mark_scid_to_advertise_at(*t, seq, on);
+    t.advertise = a.queue;
     a.answer
 }
 
@@ -181,8 +184,8 @@ pub extern "C" fn vig_ids_mark_scid_to_advertise(t: &mut Ids, seq: u64, on: bool
 pub extern "C" fn vig_ids_mark_dcid_to_retire(t: &mut Ids, seq: u64, on: bool) -> Done
     ensures { λ r. ⌜ (r ≡ (doneCall (now (t .entry)) true (C.MarkDcidToRetire seq on)) .answer) × (now (t .exit) ≡ (doneCall (now (t .entry)) true (C.MarkDcidToRetire seq on)) .ids) ⌝ }
 {
-    let a = ids::mark_dcid_to_retire(*t, seq, on);
-    *t = a.ids;
+    let a = ids::mark_dcid_to_retire_at(*t, seq, on);
+    t.retire = a.queue;
     a.answer
 }
 

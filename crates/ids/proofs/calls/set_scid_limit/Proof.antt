@@ -1,31 +1,13 @@
--- The state's test chooses between the step and refusal 1.
-use mathlib.Core.Path.{sym, _∙_}
-use mathlib.Core.Bool.{true, false}
+-- What the call leaves, put into the state.
 use borrow.Author.Needs.{needs}
-use Rattle.ids_rules.specs.Calls.{step, SetScidLimit}
-use Rattle.ids.specs.Reading.{view, doneAt, doneOf}
-use Rattle.ids.specs.CallLaws.{chosen, state-test}
 use Rattle.ids.proofs.calls.set_scid_limit.Statement.{statement}
 use Rattle.ids.proofs.calls.set_scid_limit.Tie as tie
 
-formed-requires : tie.Need-formed-requires
-formed-requires c κs = search needs
-
-limit-step-requires : tie.Need-limit-step-requires
-limit-step-requires c κs = sym (c .before .formed .ensures) ∙ c .if1 .taken
-
-done-requires : tie.Need-done-requires
-done-requires c κs = search needs
+set-scid-limit-at-requires : tie.Need-set-scid-limit-at-requires
+set-scid-limit-at-requires c κs = search needs
 
 returns : tie.Need-returns
-returns c =
-    let a = c .before .before .before .args in
-    c .limit-step .ensures ∙ chosen (a .s) true (doneOf (step (view (a .s)) (SetScidLimit (a .n)))) (doneAt 1 (a .s)) true (state-test (a .s) _ (c .before .before .formed .ensures) true (c .before .if1 .taken))
-
-returns-2 : tie.Need-returns-2
-returns-2 c =
-    let a = c .before .before .before .args in
-    c .done .ensures ∙ chosen (a .s) true (doneOf (step (view (a .s)) (SetScidLimit (a .n)))) (doneAt 1 (a .s)) false (state-test (a .s) _ (c .before .before .formed .ensures) false (c .before .if1 .left))
+returns c = λ i. record { ids = c .before .set-scid-limit-at .ensures .state i; answer = c .before .set-scid-limit-at .ensures .answer i }
 
 pub set-scid-limit-spec : {M : Type 1} → statement M
-set-scid-limit-spec = tie.close (tie.spec formed-requires limit-step-requires done-requires returns returns-2)
+set-scid-limit-spec = tie.close (tie.spec set-scid-limit-at-requires returns)

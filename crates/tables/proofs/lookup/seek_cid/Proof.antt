@@ -1,16 +1,16 @@
 -- The loop's invariant: none of the first i items has the ID.
 use Prim.Native.Nat.{_-_, _≤_}
-use mathlib.Core.Path.{_≡_, sym, ap, _∙_}
+use mathlib.Core.Path.{_≡_, sym, _∙_}
 use mathlib.Core.Option.{none}
 use native.Mathlib.Omega.{arith}
 use lib.ListN.{take}
 use borrow.Author.Needs.{needs}
 use Rattle.lists.specs.Defs.{firstWith, at}
 use Rattle.lists.specs.Search.{first-hit, first-more}
-use Rattle.tables.specs.Table.{foundOf, hasCid}
-use Rattle.tables.specs.Laws.{table-long}
-use Rattle.tables.proofs.lookup.find_cid.Statement.{statement}
-use Rattle.tables.proofs.lookup.find_cid.Tie as tie
+use Rattle.tables.specs.Table.{hasCid}
+use Rattle.tables.specs.Laws.{table-long, sought-here, sought-nowhere}
+use Rattle.tables.proofs.lookup.seek_cid.Statement.{statement}
+use Rattle.tables.proofs.lookup.seek_cid.Tie as tie
 
 abbrev Inv-loop : tie.InvT-loop
 Inv-loop cid t count i₀ i = (i ≤ count) × (firstWith (hasCid cid) (take i (t .items)) ≡ none)
@@ -35,7 +35,8 @@ returns c =
     let s = c .before .before .before .before .before .before in
     let o = c .before .before .before .before .before .loop in
     let l = table-long (s .args .t1) (s .pre) in
-    ap foundOf (sym (first-hit (hasCid (s .args .cid)) _ (s .args .t1 .items) (s .args .t1 .count) (o .i) (omega arith) (omega (arith, s .pre .few)) (o .inv .1) (sym (c .before .cid-eq .ensures) ∙ c .if1 .taken)))
+    let e = first-hit (hasCid (s .args .cid)) _ (s .args .t1 .items) (s .args .t1 .count) (o .i) (omega arith) (omega (arith, s .pre .few)) (o .inv .1) (sym (c .before .cid-eq .ensures) ∙ c .if1 .taken) in
+    sought-here (s .args .t1) (s .pre) _ (o .i) _ (omega arith) e
 
 add-i : tie.Need-add-i Inv-loop μ-loop
 add-i c = search needs
@@ -50,10 +51,15 @@ loop-again c =
     let l = table-long (s .args .t1) (s .pre) in
     (omega arith, first-more (hasCid (s .args .cid)) _ (s .args .t1 .items) (o .i) (omega (arith, s .pre .few)) (o .inv .1) (sym (c .before .cid-eq .ensures) ∙ c .if1 .left))
 
+blank-requires : tie.Need-blank-requires Inv-loop μ-loop
+blank-requires c κs = search needs
+
 returns-2 : tie.Need-returns-2 Inv-loop μ-loop
 returns-2 c =
-    let e : c .before .loop .i ≡ c .before .before .args .t1 .count = omega arith in
-    ap foundOf (sym (rw e at (c .before .loop .inv .1)))
+    let o = c .before .before .loop in
+    let s = c .before .before .before in
+    let e : o .i ≡ s .args .t1 .count = omega arith in
+    sought-nowhere (s .args .t1) _ _ (c .blank .ensures) (rw e at (o .inv .1))
 
-pub find-cid-spec : {M : Type 1} → statement M
-find-cid-spec = tie.close (tie.spec Inv-loop μ-loop loop-holds mul-x element-copy-out-x cid-eq-requires returns add-i loop-less loop-again returns-2)
+pub seek-cid-spec : {M : Type 1} → statement M
+seek-cid-spec = tie.close (tie.spec Inv-loop μ-loop loop-holds mul-x element-copy-out-x cid-eq-requires returns add-i loop-less loop-again blank-requires returns-2)

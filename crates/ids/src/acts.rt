@@ -1,0 +1,121 @@
+// Each call that changes the state, as what it may change of it and the answer: a lent state is changed in place by that. Each tests the state and its
+// arguments first: what is not of its form is refused with 1, and the fields come back as they were. docs/RULES.md has the steps after that.
+ghost use mathlib.Core.Bool.{true, _&&_};
+ghost use Rattle.lists.specs.Defs.{given};
+ghost use Rattle.values.specs.Cid.{idFormed};
+ghost use Rattle.values.specs.Token.{tokenFormed, tokenView};
+ghost use Rattle.ids_rules.specs.Calls as C;
+ghost use Rattle.ids.specs.Reading.{doneCall, pathFormed};
+ghost use Rattle.ids.specs.Puts.{putAdvertise, putDestination, putInitial, putLimit, putRetire, putSource};
+ghost use Rattle.ids.specs.Acts.{Leaves};
+use crate::answers::InitialOut;
+use crate::answers::LimitOut;
+use crate::answers::QueueOut;
+use crate::answers::TableOut;
+use crate::marks;
+use crate::starts;
+use ids_state::Ids;
+use values::ConnectionId;
+use values::Done;
+use values::Token;
+use values::refusals::ACCEPTED;
+use values::refusals::MALFORMED;
+
+// The destination table holds the ID alone, with sequence 0.
+pub fn set_initial_dcid_at(
+    s: Ids,
+    cid: ConnectionId,
+    token: Token,
+    has: bool,
+    path: u64,
+) -> InitialOut
+    ensures { λ r. ⌜ Leaves (putInitial (r .destination) (r .«zero_destination») s) (doneCall s (idFormed cid && tokenFormed token && pathFormed has path) (C.SetInitialDcid cid (tokenView token) (given has path)) .ids) (r .answer) (doneCall s (idFormed cid && tokenFormed token && pathFormed has path) (C.SetInitialDcid cid (tokenView token) (given has path)) .answer) ⌝ }
+{
+    let f = ids_state::formed(s);
+    let c = values::cid_formed(cid);
+    let k = values::token_formed(token);
+    let args = c & k & (has | (path == 0));
+    if f & args {
+        let t = starts::only(cid, token, has, path);
+        return InitialOut {
+            destination: t,
+            zero_destination: cid.len == 0,
+            answer: Done { refusal: ACCEPTED },
+        };
+    }
+    let t = s.destination;
+    InitialOut {
+        destination: t,
+        zero_destination: s.zero_destination,
+        answer: Done { refusal: MALFORMED },
+    }
+}
+
+// The most source IDs that the peer allows, clamped to 2..16.
+pub fn set_scid_limit_at(s: Ids, n: u64) -> LimitOut
+    ensures { λ r. ⌜ Leaves (putLimit (r .slimit) (r .capacity) s) (doneCall s true (C.SetScidLimit n) .ids) (r .answer) (doneCall s true (C.SetScidLimit n) .answer) ⌝ }
+{
+    if ids_state::formed(s) {
+        let limit = starts::clamped(n);
+        let wide = (2 * limit - 1) as usize;
+        let capacity = starts::larger(s.capacity, wide);
+        return LimitOut {
+            slimit: limit,
+            capacity: capacity,
+            answer: Done { refusal: ACCEPTED },
+        };
+    }
+    LimitOut {
+        slimit: s.slimit,
+        capacity: s.capacity,
+        answer: Done { refusal: MALFORMED },
+    }
+}
+
+// The source item is used by the path.
+pub fn mark_scid_used_at(s: Ids, seq: u64, path: u64) -> TableOut
+    ensures { λ r. ⌜ Leaves (putSource (r .table) s) (doneCall s true (C.MarkScidUsed seq path) .ids) (r .answer) (doneCall s true (C.MarkScidUsed seq path) .answer) ⌝ }
+{
+    let t = s.source;
+    if ids_state::formed(s) {
+        marks::used_step(t, seq, path)
+    } else {
+        marks::table_done(t, MALFORMED)
+    }
+}
+
+// The destination item is used by the path.
+pub fn mark_dcid_used_at(s: Ids, seq: u64, path: u64) -> TableOut
+    ensures { λ r. ⌜ Leaves (putDestination (r .table) s) (doneCall s true (C.MarkDcidUsed seq path) .ids) (r .answer) (doneCall s true (C.MarkDcidUsed seq path) .answer) ⌝ }
+{
+    let t = s.destination;
+    if ids_state::formed(s) {
+        marks::used_step(t, seq, path)
+    } else {
+        marks::table_done(t, MALFORMED)
+    }
+}
+
+// The source sequence is to be announced, or no longer.
+pub fn mark_scid_to_advertise_at(s: Ids, seq: u64, on: bool) -> QueueOut
+    ensures { λ r. ⌜ Leaves (putAdvertise (r .queue) s) (doneCall s true (C.MarkScidToAdvertise seq on) .ids) (r .answer) (doneCall s true (C.MarkScidToAdvertise seq on) .answer) ⌝ }
+{
+    let q = s.advertise;
+    if ids_state::formed(s) {
+        marks::queue_step(q, seq, on)
+    } else {
+        marks::queue_done(q, MALFORMED)
+    }
+}
+
+// The destination sequence is to be retired, or no longer.
+pub fn mark_dcid_to_retire_at(s: Ids, seq: u64, on: bool) -> QueueOut
+    ensures { λ r. ⌜ Leaves (putRetire (r .queue) s) (doneCall s true (C.MarkDcidToRetire seq on) .ids) (r .answer) (doneCall s true (C.MarkDcidToRetire seq on) .answer) ⌝ }
+{
+    let q = s.retire;
+    if ids_state::formed(s) {
+        marks::queue_step(q, seq, on)
+    } else {
+        marks::queue_done(q, MALFORMED)
+    }
+}
