@@ -1,16 +1,27 @@
 -- A call that changes the state, as what it leaves: the fields that it may change, put into the state, and the answer.
 use Prim.Native.Nat.{ℕ}
 use mathlib.Core.Path.{_≡_, ap}
-use mathlib.Core.Bool.{Bool, cond}
+use mathlib.Core.List.{[]}
+use mathlib.Core.Bool.{Bool, true, cond}
 use mathlib.Core.Option.{Option, none, some}
 use lib.ListN.{set, getD}
 use Rattle.values.specs.declared.answers.Done.{Done}
+use Rattle.ids_rules.specs.View.{View, Out}
 use Rattle.ids_rules.specs.Steps.{marked}
-use Rattle.tables.specs.Table.{zeroItem, live, entries, tableOf, queueOf, onPath}
+use Rattle.tables.specs.Table.{zeroItem, live, entries, tableOf, queueOf, usedOf, onPath}
 use Rattle.tables.specs.declared.sequences.Queue.{Queue}
 use Rattle.tables.specs.declared.items.Table.{Table}
+use Rattle.ids_state.specs.Formed.{wellFormed}
 use Rattle.ids_state.specs.declared.state.Ids.{Ids}
+use Rattle.ids.specs.Reading.{view, numberedAt, retiredOf}
+use Rattle.ids.specs.Puts.{putIssued, putSourceRpt, putLowered, putHeld}
 use Rattle.ids.specs.declared.answers.DoneOut.{DoneOut}
+use Rattle.ids.specs.declared.answers.IssuedOut.{IssuedOut}
+use Rattle.ids.specs.declared.answers.FreedOut.{FreedOut}
+use Rattle.ids.specs.declared.answers.RetiredOut.{RetiredOut}
+use Rattle.ids.specs.declared.answers.IssuedParts.{IssuedParts}
+use Rattle.ids.specs.declared.answers.FreedParts.{FreedParts}
+use Rattle.ids.specs.declared.answers.RetiredParts.{RetiredParts}
 use Rattle.ids.specs.declared.answers.TableOut.{TableOut}
 use Rattle.ids.specs.declared.answers.QueueOut.{QueueOut}
 
@@ -25,6 +36,42 @@ doneIn u a = record { ids = u; answer = a }
 
 pub done-leaves : (u : Ids) (a : Done) (r : DoneOut) → doneIn u a ≡ r → Leaves u (r .ids) a (r .answer)
 done-leaves u a r e = record { state = ap (λ (x : DoneOut). x .ids) e; answer = ap (λ (x : DoneOut). x .answer) e }
+
+-- ---- the calls that change several fields: those fields, put into the state, and the answer
+
+abbrev pub issuedIn : Ids → IssuedParts → IssuedOut
+issuedIn s r = record { ids = putIssued (r .source) (r .advertise) (r .next) (r .rpt) s; answer = r .answer }
+
+abbrev pub freedIn : Ids → FreedParts → FreedOut
+freedIn s r = record { ids = putSourceRpt (r .source) (r .rpt) s; answer = r .answer }
+
+abbrev pub retiredIn : Ids → RetiredParts → RetiredOut
+retiredIn s r = record { ids = putLowered (r .destination) (r .retire) (r .largest) s; answer = r .answer }
+
+pub issued-leaves : (s : Ids) (p : IssuedParts) (r : IssuedOut) → issuedIn s p ≡ r → Leaves (putIssued (p .source) (p .advertise) (p .next) (p .rpt) s) (r .ids) (p .answer) (r .answer)
+issued-leaves s p r e = record { state = ap (λ (x : IssuedOut). x .ids) e; answer = ap (λ (x : IssuedOut). x .answer) e }
+
+pub freed-leaves : (s : Ids) (p : FreedParts) (r : FreedOut) → freedIn s p ≡ r → Leaves (putSourceRpt (p .source) (p .rpt) s) (r .ids) (p .answer) (r .answer)
+freed-leaves s p r e = record { state = ap (λ (x : FreedOut). x .ids) e; answer = ap (λ (x : FreedOut). x .answer) e }
+
+-- no path was freed, no pair retired
+abbrev pub freeNone : ℕ → Table → ℕ → FreedParts
+freeNone refusal t rpt = record { source = t; rpt = rpt; answer = numberedAt refusal none }
+
+abbrev pub retireNone : ℕ → Table → Queue → ℕ → RetiredParts
+retireNone refusal t q largest = record { destination = t; retire = q; largest = largest; answer = record { refusal = refusal; used = usedOf [] } }
+
+-- the fields that add_dcid's steps are given are those of a well-formed state: rest has its other fields
+pub record Held (t : Table) (q : Queue) (largest dlimit : ℕ) : Type 0 where
+  pub rest : Ids
+  pub well : wellFormed (putHeld t q largest dlimit rest) ≡ true
+
+abbrev pub held : {t : Table} {q : Queue} {largest dlimit : ℕ} → Held t q largest dlimit → Ids
+held {t} {q} {largest} {dlimit} h = putHeld t q largest dlimit (h .rest)
+
+-- put into any such state, r is what f gives of its view
+abbrev pub Gives : Table → Queue → ℕ → ℕ → RetiredParts → (f : View → Out) → Type 0
+Gives t q largest dlimit r f = (h : Held t q largest dlimit) → retiredIn (held h) r ≡ retiredOf (f (view (held h)))
 
 -- ---- the marks, on one table or one queue
 

@@ -34,3 +34,7 @@ putIssued t a n r s = record { source = t; destination = s .destination; capacit
 
 abbrev pub putSourceRpt : Table → ℕ → Ids → Ids
 putSourceRpt t r s = record { source = t; destination = s .destination; capacity = s .capacity; dlimit = s .dlimit; slimit = s .slimit; «zero_source» = s .«zero_source»; «zero_destination» = s .«zero_destination»; next = s .next; rpt = r; largest = s .largest; advertise = s .advertise; retire = s .retire }
+
+-- the fields that a new destination ID is held against
+abbrev pub putHeld : Table → Queue → ℕ → ℕ → Ids → Ids
+putHeld t q b d s = record { source = s .source; destination = t; capacity = s .capacity; dlimit = d; slimit = s .slimit; «zero_source» = s .«zero_source»; «zero_destination» = s .«zero_destination»; next = s .next; rpt = s .rpt; largest = b; advertise = s .advertise; retire = q }

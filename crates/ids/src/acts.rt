@@ -1,17 +1,21 @@
-// Each call that changes the state, as what it may change of it and the answer: a lent state is changed in place by that. Each tests the state and its
-// arguments first: what is not of its form is refused with 1, and the fields come back as they were. docs/RULES.md has the steps after that.
+// The calls that change the state, but for add_dcid, as what they may change of it and the answer: a lent state is changed in place by that. Each tests
+// the state and its arguments first: what is not of its form is refused with 1, and the fields come back as they were. docs/RULES.md has the steps after
+// that.
 ghost use mathlib.Core.Bool.{true, _&&_};
 ghost use Rattle.lists.specs.Defs.{given};
 ghost use Rattle.values.specs.Cid.{idFormed};
 ghost use Rattle.values.specs.Token.{tokenFormed, tokenView};
 ghost use Rattle.ids_rules.specs.Calls as C;
-ghost use Rattle.ids.specs.Reading.{doneCall, pathFormed};
-ghost use Rattle.ids.specs.Puts.{putAdvertise, putDestination, putInitial, putLimit, putRetire, putSource};
+ghost use Rattle.ids.specs.Reading.{doneCall, freedCall, issuedCall, pathFormed};
+ghost use Rattle.ids.specs.Puts.{putAdvertise, putDestination, putInitial, putIssued, putLimit, putRetire, putSource, putSourceRpt};
 ghost use Rattle.ids.specs.Acts.{Leaves};
+use crate::answers::FreedParts;
 use crate::answers::InitialOut;
+use crate::answers::IssuedParts;
 use crate::answers::LimitOut;
 use crate::answers::QueueOut;
 use crate::answers::TableOut;
+use crate::issues;
 use crate::marks;
 use crate::starts;
 use ids_state::Ids;
@@ -94,6 +98,42 @@ pub fn mark_dcid_used_at(s: Ids, seq: u64, path: u64) -> TableOut
     } else {
         marks::table_done(t, MALFORMED)
     }
+}
+
+// A new source ID, at the end of the table: the answer is its sequence.
+pub fn add_scid_at(
+    s: Ids,
+    cid: ConnectionId,
+    token: Token,
+    advertise: bool,
+    has: bool,
+    path: u64,
+    leave: bool,
+) -> IssuedParts
+    ensures { λ r. ⌜ Leaves (putIssued (r .source) (r .advertise) (r .next) (r .rpt) s) (issuedCall s (idFormed cid && tokenFormed token && pathFormed has path) (C.AddScid cid (tokenView token) advertise (given has path) leave) .ids) (r .answer) (issuedCall s (idFormed cid && tokenFormed token && pathFormed has path) (C.AddScid cid (tokenView token) advertise (given has path) leave) .answer) ⌝ }
+{
+    let f = ids_state::formed(s);
+    let c = values::cid_formed(cid);
+    let k = values::token_formed(token);
+    let args = c & k & (has | (path == 0));
+    if f & args {
+        issues::add_scid_step(s, cid, token, advertise, has, path, leave)
+    } else {
+        issues::none_issued(s, s.rpt, MALFORMED)
+    }
+}
+
+// A RETIRE_CONNECTION_ID frame: the answer is the path that used the ID.
+pub fn retire_scid_at(s: Ids, seq: u64, packet: ConnectionId) -> FreedParts
+    ensures { λ r. ⌜ Leaves (putSourceRpt (r .source) (r .rpt) s) (freedCall s (idFormed packet) (C.RetireScid seq packet) .ids) (r .answer) (freedCall s (idFormed packet) (C.RetireScid seq packet) .answer) ⌝ }
+{
+    let f = ids_state::formed(s);
+    let c = values::cid_formed(packet);
+    if f & c {
+        return issues::retire_scid_step(s, seq, packet);
+    }
+    let t = s.source;
+    issues::none_freed(t, s.rpt, MALFORMED)
 }
 
 // The source sequence is to be announced, or no longer.

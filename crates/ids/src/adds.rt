@@ -3,13 +3,17 @@ ghost use mathlib.Core.Path.{_≡_};
 ghost use mathlib.Core.List.{[]};
 ghost use mathlib.Core.Bool.{true};
 ghost use Rattle.values.specs.Cid.{idFormed};
-ghost use Rattle.ids_state.specs.Formed as F;
+ghost use Rattle.tables.specs.Table.{usedOf};
+ghost use Rattle.ids_state.specs.Formed.{itemFormed, wellFormed};
 ghost use Rattle.ids_rules.specs.Steps as S;
-ghost use Rattle.ids.specs.Reading.{itemView, retiredAt, retiredOf, view};
+ghost use Rattle.ids.specs.Reading.{itemView, retiredOf, view};
+ghost use Rattle.ids.specs.Acts.{Gives, Held, retiredIn, retireNone};
 use crate::answers::RetiredAnswer;
-use crate::answers::RetiredOut;
+use crate::answers::RetiredParts;
 use ids_state::Ids;
 use tables::Item;
+use tables::Queue;
+use tables::Table;
 use values::ConnectionId;
 use values::Token;
 use values::limits::QUEUE_SLOTS;
@@ -19,88 +23,86 @@ use values::refusals::CONNECTION_ID_LIMIT_ERROR;
 use values::refusals::NO_SLOT;
 use values::refusals::PROTOCOL_VIOLATION;
 
-pub fn no_pairs(s: Ids, n: u8) -> RetiredOut
-    ensures { λ r. ⌜ r ≡ retiredAt n [] s ⌝ }
+pub fn none_retired(n: u8) -> RetiredAnswer
+    ensures { λ r. ⌜ r ≡ record { refusal = n; used = usedOf [] } ⌝ }
 {
     let none = tables::no_pairs();
-    RetiredOut {
-        ids: s,
-        answer: RetiredAnswer {
-            refusal: n,
-            used: none,
-        },
+    RetiredAnswer {
+        refusal: n,
+        used: none,
+    }
+}
+
+fn no_pairs(d: Table, q: Queue, largest: u64, n: u8) -> RetiredParts
+    ensures { λ r. ⌜ r ≡ retireNone n d q largest ⌝ }
+{
+    let none = none_retired(n);
+    RetiredParts {
+        destination: d,
+        retire: q,
+        largest: largest,
+        answer: none,
     }
 }
 
 // A sequence below the largest Retire Prior To is queued at once.
-fn late_step(s: Ids, seq: u64) -> RetiredOut
-    requires { ⌜ F.wellFormed s ≡ true ⌝ }
-    ensures { λ r. ⌜ r ≡ retiredOf (S.queueLate seq (view s)) ⌝ }
+fn late_step(t: Table, q: Queue, largest: u64, dlimit: u64, seq: u64) -> RetiredParts
+    requires { ⌜ Held t q largest dlimit ⌝ }
+    ensures { λ r. ⌜ Gives t q largest dlimit r (S.queueLate seq) ⌝ }
 {
-    let q = s.retire;
     if QUEUE_SLOTS <= q.count {
-        return no_pairs(s, NO_SLOT);
+        return no_pairs(t, q, largest, NO_SLOT);
     }
     let p = tables::queue_push(q, seq);
-    let mut u = s;
-    u.retire = p;
-    let most = RETIRE_FACTOR * s.dlimit;
+    let most = RETIRE_FACTOR * dlimit;
     let n = p.count as u64;
     if most < n {
-        return no_pairs(u, PROTOCOL_VIOLATION);
+        return no_pairs(t, p, largest, PROTOCOL_VIOLATION);
     }
-    no_pairs(u, ACCEPTED)
+    no_pairs(t, p, largest, ACCEPTED)
 }
 
-fn append_step(s: Ids, x: Item) -> RetiredOut
-    requires { ⌜ (F.wellFormed s ≡ true) × (F.itemFormed x ≡ true) ⌝ }
-    ensures { λ r. ⌜ r ≡ retiredOf (S.append (itemView x) [] (view s)) ⌝ }
+fn append_step(t: Table, q: Queue, largest: u64, dlimit: u64, x: Item) -> RetiredParts
+    requires { ⌜ Held t q largest dlimit × (itemFormed x ≡ true) ⌝ }
+    ensures { λ r. ⌜ Gives t q largest dlimit r (S.append (itemView x) []) ⌝ }
 {
-    let t = s.destination;
-    let most = 2 * s.dlimit - 1;
+    let most = 2 * dlimit - 1;
     let n = t.count as u64;
     if most <= n {
-        return no_pairs(s, CONNECTION_ID_LIMIT_ERROR);
+        return no_pairs(t, q, largest, CONNECTION_ID_LIMIT_ERROR);
     }
     let d = tables::append(t, x);
-    let mut u = s;
-    u.destination = d;
-    no_pairs(u, ACCEPTED)
+    no_pairs(d, q, largest, ACCEPTED)
 }
 
 // A Retire Prior To above the largest: 6 is decided before anything moves.
-fn raise_step(s: Ids, x: Item, b: u64) -> RetiredOut
-    requires { ⌜ (F.wellFormed s ≡ true) × (F.itemFormed x ≡ true) ⌝ }
-    ensures { λ r. ⌜ r ≡ retiredOf (S.raise (itemView x) b (view s)) ⌝ }
+fn raise_step(t: Table, q: Queue, largest: u64, dlimit: u64, x: Item, b: u64) -> RetiredParts
+    requires { ⌜ Held t q largest dlimit × (itemFormed x ≡ true) ⌝ }
+    ensures { λ r. ⌜ Gives t q largest dlimit r (S.raise (itemView x) b) ⌝ }
 {
-    let t = s.destination;
-    let q = s.retire;
     let kept = tables::keep_from(t, b);
     let lower = t.count - kept.count;
     let total = q.count + lower;
     if QUEUE_SLOTS < total {
-        return no_pairs(s, NO_SLOT);
+        return no_pairs(t, q, largest, NO_SLOT);
     }
     let moved = tables::queue_lower(t, b, q);
-    let mut u = s;
-    u.destination = kept;
-    u.retire = moved;
-    u.largest = b;
-    let most = RETIRE_FACTOR * s.dlimit;
+    let most = RETIRE_FACTOR * dlimit;
     let n = moved.count as u64;
     if most < n {
-        return no_pairs(u, PROTOCOL_VIOLATION);
+        return no_pairs(kept, moved, b, PROTOCOL_VIOLATION);
     }
-    let room = 2 * s.dlimit - 1;
+    let room = 2 * dlimit - 1;
     let k = kept.count as u64;
     if room <= k {
-        return no_pairs(u, CONNECTION_ID_LIMIT_ERROR);
+        return no_pairs(kept, moved, b, CONNECTION_ID_LIMIT_ERROR);
     }
     let used = tables::used_lower(t, b);
     let d = tables::append(kept, x);
-    u.destination = d;
-    RetiredOut {
-        ids: u,
+    RetiredParts {
+        destination: d,
+        retire: moved,
+        largest: b,
         answer: RetiredAnswer {
             refusal: ACCEPTED,
             used: used,
@@ -108,32 +110,33 @@ fn raise_step(s: Ids, x: Item, b: u64) -> RetiredOut
     }
 }
 
-fn new_step(s: Ids, x: Item, b: u64) -> RetiredOut
-    requires { ⌜ (F.wellFormed s ≡ true) × (F.itemFormed x ≡ true) ⌝ }
-    ensures { λ r. ⌜ r ≡ retiredOf (S.addNew (itemView x) b (view s)) ⌝ }
+fn new_step(t: Table, q: Queue, largest: u64, dlimit: u64, x: Item, b: u64) -> RetiredParts
+    requires { ⌜ Held t q largest dlimit × (itemFormed x ≡ true) ⌝ }
+    ensures { λ r. ⌜ Gives t q largest dlimit r (S.addNew (itemView x) b) ⌝ }
 {
     if x.seq < b {
-        return no_pairs(s, PROTOCOL_VIOLATION);
+        return no_pairs(t, q, largest, PROTOCOL_VIOLATION);
     }
-    let q = s.retire;
     let seq = x.seq;
     let has = tables::queue_has(q, seq);
-    let late = (seq < s.largest) & !has;
+    let late = (seq < largest) & !has;
     if late {
-        return late_step(s, seq);
+        return late_step(t, q, largest, dlimit, seq);
     }
-    if s.largest < b {
-        return raise_step(s, x, b);
+    if largest < b {
+        return raise_step(t, q, largest, dlimit, x, b);
     }
-    append_step(s, x)
+    append_step(t, q, largest, dlimit, x)
 }
 
-pub fn add_dcid_step(s: Ids, cid: ConnectionId, seq: u64, token: [u8; 16], b: u64) -> RetiredOut
-    requires { ⌜ (F.wellFormed s ≡ true) × (idFormed cid ≡ true) ⌝ }
-    ensures { λ r. ⌜ r ≡ retiredOf (S.addDcid cid seq token b (view s)) ⌝ }
+pub fn add_dcid_step(s: Ids, cid: ConnectionId, seq: u64, token: [u8; 16], b: u64) -> RetiredParts
+    requires { ⌜ (wellFormed s ≡ true) × (idFormed cid ≡ true) ⌝ }
+    ensures { λ r. ⌜ retiredIn s r ≡ retiredOf (S.addDcid cid seq token b (view s)) ⌝ }
 {
+    let t = s.destination;
+    let q = s.retire;
     if s.zero_destination {
-        return no_pairs(s, PROTOCOL_VIOLATION);
+        return no_pairs(t, q, s.largest, PROTOCOL_VIOLATION);
     }
     let x = Item {
         seq: seq,
@@ -145,13 +148,12 @@ pub fn add_dcid_step(s: Ids, cid: ConnectionId, seq: u64, token: [u8; 16], b: u6
         },
         has_path: false,
     };
-    let t = s.destination;
     let j = tables::clash(t, x);
     if j == 1 {
-        return no_pairs(s, ACCEPTED);
+        return no_pairs(t, q, s.largest, ACCEPTED);
     }
     if j != 0 {
-        return no_pairs(s, PROTOCOL_VIOLATION);
+        return no_pairs(t, q, s.largest, PROTOCOL_VIOLATION);
     }
-    new_step(s, x, b)
+    new_step(t, q, s.largest, s.dlimit, x, b)
 }

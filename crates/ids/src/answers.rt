@@ -44,7 +44,7 @@ pub struct RetiredAnswer {
     pub used: Used,
 }
 
-// What a call that changes the state gives: the state first, which saves a lent caller a copy.
+// What a call that changes the state gives.
 #[repr(C)]
 pub struct DoneOut {
     pub ids: Ids,
@@ -90,4 +90,25 @@ pub struct LimitOut {
     pub slimit: u64,
     pub capacity: usize,
     pub answer: Done,
+}
+
+pub struct IssuedParts {
+    pub source: Table,
+    pub advertise: Queue,
+    pub next: u64,
+    pub rpt: u64,
+    pub answer: Counted,
+}
+
+pub struct FreedParts {
+    pub source: Table,
+    pub rpt: u64,
+    pub answer: Numbered,
+}
+
+pub struct RetiredParts {
+    pub destination: Table,
+    pub retire: Queue,
+    pub largest: u64,
+    pub answer: RetiredAnswer,
 }

@@ -16,7 +16,6 @@ use crate::answers::FreedOut;
 use crate::answers::IssuedOut;
 use crate::answers::ItemAnswer;
 use crate::answers::RetiredOut;
-use crate::issues;
 use crate::marks;
 use crate::reads;
 use crate::starts;
@@ -190,15 +189,16 @@ pub fn add_scid(
 ) -> IssuedOut
     ensures { λ r. ⌜ r ≡ issuedCall s (idFormed cid && tokenFormed token && pathFormed has path) (C.AddScid cid (tokenView token) advertise (given has path) leave) ⌝ }
 {
-    let f = ids_state::formed(s);
-    let c = values::cid_formed(cid);
-    let k = values::token_formed(token);
-    let args = c & k & (has | (path == 0));
-    if f & args {
-        issues::add_scid_step(s, cid, token, advertise, has, path, leave)
-    } else {
-        issues::none_issued(s, MALFORMED)
-    }
+    let a = acts::add_scid_at(s, cid, token, advertise, has, path, leave);
+    let t = a.source;
+    let q = a.advertise;
+    let mut u = s;
+    u.source = t;
+    u.advertise = q;
+    u.next = a.next;
+    u.rpt = a.rpt;
+    let d = a.answer;
+    IssuedOut { ids: u, answer: d }
 }
 
 // A NEW_CONNECTION_ID frame: the answer is what it retired of the IDs in use.
@@ -215,23 +215,31 @@ pub fn add_dcid(
     let f = ids_state::formed(s);
     let c = values::cid_formed(cid);
     if f & c {
-        adds::add_dcid_step(s, cid, seq, bytes, retire_prior_to)
-    } else {
-        adds::no_pairs(s, MALFORMED)
+        let p = adds::add_dcid_step(s, cid, seq, bytes, retire_prior_to);
+        let t = p.destination;
+        let q = p.retire;
+        let mut u = s;
+        u.destination = t;
+        u.retire = q;
+        u.largest = p.largest;
+        let d = p.answer;
+        return RetiredOut { ids: u, answer: d };
     }
+    let d = adds::none_retired(MALFORMED);
+    RetiredOut { ids: s, answer: d }
 }
 
 // A RETIRE_CONNECTION_ID frame: the answer is the path that used the ID.
 pub fn retire_scid(s: Ids, seq: u64, packet: ConnectionId) -> FreedOut
     ensures { λ r. ⌜ r ≡ freedCall s (idFormed packet) (C.RetireScid seq packet) ⌝ }
 {
-    let f = ids_state::formed(s);
-    let c = values::cid_formed(packet);
-    if f & c {
-        issues::retire_scid_step(s, seq, packet)
-    } else {
-        issues::none_freed(s, MALFORMED)
-    }
+    let a = acts::retire_scid_at(s, seq, packet);
+    let t = a.source;
+    let mut u = s;
+    u.source = t;
+    u.rpt = a.rpt;
+    let d = a.answer;
+    FreedOut { ids: u, answer: d }
 }
 
 // The source sequence is to be announced, or no longer.

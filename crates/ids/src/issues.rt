@@ -1,7 +1,7 @@
 // add_scid and retire_scid: the source IDs that we issue, and that the peer retires (RFC 9000, 5.1.1 and 19.16).
 ghost use mathlib.Core.Path.{_≡_};
 ghost use mathlib.Core.Bool.{true};
-ghost use mathlib.Core.Option.{none, some};
+ghost use mathlib.Core.Option.{some};
 ghost use lib.ListN.{getD};
 ghost use Rattle.lists.specs.Defs.{firstWith, given};
 ghost use Rattle.values.specs.Token.{tokenFormed, tokenView};
@@ -9,13 +9,16 @@ ghost use Rattle.tables.specs.Table as T;
 ghost use Rattle.ids_state.specs.Formed.{wellFormed};
 ghost use Rattle.ids_rules.specs.View.{withRpt, withScids};
 ghost use Rattle.ids_rules.specs.Steps as S;
-ghost use Rattle.ids.specs.Reading.{freedAt, freedOf, issuedAt, issuedOf, itemView, pathFormed, view};
-use crate::answers::FreedOut;
-use crate::answers::IssuedOut;
+ghost use Rattle.ids.specs.Reading.{freedOf, issuedAt, issuedOf, itemView, pathFormed, view};
+ghost use Rattle.ids.specs.Puts.{putRpt};
+ghost use Rattle.ids.specs.Acts.{freedIn, freeNone, issuedIn};
+use crate::answers::FreedParts;
+use crate::answers::IssuedParts;
 use crate::marks;
 use ids_state::Ids;
 use tables::Item;
 use tables::Lowest;
+use tables::Table;
 use values::ConnectionId;
 use values::Counted;
 use values::Numbered;
@@ -29,11 +32,16 @@ use values::refusals::NO_SLOT;
 use values::refusals::PROTOCOL_VIOLATION;
 use values::refusals::SPENT;
 
-pub fn none_issued(s: Ids, n: u8) -> IssuedOut
-    ensures { λ r. ⌜ r ≡ issuedAt n 0 s ⌝ }
+pub fn none_issued(s: Ids, rpt: u64, n: u8) -> IssuedParts
+    ensures { λ r. ⌜ issuedIn s r ≡ issuedAt n 0 (putRpt rpt s) ⌝ }
 {
-    IssuedOut {
-        ids: s,
+    let t = s.source;
+    let q = s.advertise;
+    IssuedParts {
+        source: t,
+        advertise: q,
+        next: s.next,
+        rpt: rpt,
         answer: Counted {
             refusal: n,
             number: 0,
@@ -42,33 +50,32 @@ pub fn none_issued(s: Ids, n: u8) -> IssuedOut
 }
 
 // With own Retire Prior To as it was, or raised. 6 leaves the old one.
-fn issue_step(s: Ids, rpt: u64, x: Item, advertise: bool) -> IssuedOut
+fn issue_step(s: Ids, rpt: u64, x: Item, advertise: bool) -> IssuedParts
     requires { ⌜ (wellFormed s ≡ true) × (x .seq ≡ s .next) × (tokenFormed (x .token) ≡ true) × (pathFormed (x .«has_path») (x .path) ≡ true) ⌝ }
-    ensures { λ r. ⌜ r ≡ issuedOf (S.issue (x .cid) (tokenView (x .token)) advertise (given (x .«has_path») (x .path)) (view s) (withRpt rpt (view s))) ⌝ }
+    ensures { λ r. ⌜ issuedIn s r ≡ issuedOf (S.issue (x .cid) (tokenView (x .token)) advertise (given (x .«has_path») (x .path)) (view s) (withRpt rpt (view s))) ⌝ }
 {
-    let mut w = s;
-    w.rpt = rpt;
     let k = x.token;
     if !k.present {
-        return none_issued(w, INTERNAL_ERROR);
+        return none_issued(s, rpt, INTERNAL_ERROR);
     }
     let t = s.source;
     if s.capacity <= t.count {
-        return none_issued(w, CONNECTION_ID_LIMIT_ERROR);
+        return none_issued(s, rpt, CONNECTION_ID_LIMIT_ERROR);
     }
     let q = s.advertise;
     let full = advertise & (QUEUE_SLOTS <= q.count);
     if full {
-        return none_issued(s, NO_SLOT);
+        return none_issued(s, s.rpt, NO_SLOT);
     }
     let seq = s.next;
     let a = marks::marked(q, seq, advertise);
     let d = tables::append(t, x);
-    w.source = d;
-    w.next = seq + 1;
-    w.advertise = a;
-    IssuedOut {
-        ids: w,
+    let next = seq + 1;
+    IssuedParts {
+        source: d,
+        advertise: a,
+        next: next,
+        rpt: rpt,
         answer: Counted {
             refusal: ACCEPTED,
             number: seq,
@@ -84,15 +91,15 @@ pub fn add_scid_step(
     has: bool,
     path: u64,
     leave: bool,
-) -> IssuedOut
+) -> IssuedParts
     requires { ⌜ (wellFormed s ≡ true) × (tokenFormed token ≡ true) × (pathFormed has path ≡ true) ⌝ }
-    ensures { λ r. ⌜ r ≡ issuedOf (S.addScid cid (tokenView token) advertise (given has path) leave (view s)) ⌝ }
+    ensures { λ r. ⌜ issuedIn s r ≡ issuedOf (S.addScid cid (tokenView token) advertise (given has path) leave (view s)) ⌝ }
 {
     if s.zero_source {
-        return none_issued(s, INTERNAL_ERROR);
+        return none_issued(s, s.rpt, INTERNAL_ERROR);
     }
     if MAX_SEQUENCE <= s.next {
-        return none_issued(s, SPENT);
+        return none_issued(s, s.rpt, SPENT);
     }
     let x = Item {
         seq: s.next,
@@ -107,20 +114,21 @@ pub fn add_scid_step(
         return issue_step(s, s.rpt, x, advertise);
     }
     if !leave {
-        return none_issued(s, CONNECTION_ID_LIMIT_ERROR);
+        return none_issued(s, s.rpt, CONNECTION_ID_LIMIT_ERROR);
     }
     let low = tables::lowest_from(t, s.rpt);
     match low {
         Lowest::Seq(m) => issue_step(s, m + 1, x, advertise),
-        Lowest::Missing => none_issued(s, INTERNAL_ERROR),
+        Lowest::Missing => none_issued(s, s.rpt, INTERNAL_ERROR),
     }
 }
 
-pub fn none_freed(s: Ids, n: u8) -> FreedOut
-    ensures { λ r. ⌜ r ≡ freedAt n none s ⌝ }
+pub fn none_freed(t: Table, rpt: u64, n: u8) -> FreedParts
+    ensures { λ r. ⌜ r ≡ freeNone n t rpt ⌝ }
 {
-    FreedOut {
-        ids: s,
+    FreedParts {
+        source: t,
+        rpt: rpt,
         answer: Numbered {
             refusal: n,
             present: false,
@@ -129,51 +137,47 @@ pub fn none_freed(s: Ids, n: u8) -> FreedOut
     }
 }
 
-// The item at i is taken out before its ID is held against the packet's, as in the Rust.
-fn take_step(s: Ids, seq: u64, i: usize, packet: ConnectionId) -> FreedOut
-    requires { ⌜ (wellFormed s ≡ true) × (firstWith (T.hasSeq seq) (T.live (s .source)) ≡ some i) ⌝ }
-    ensures { λ r. ⌜ r ≡ freedOf (S.taken (itemView (getD (T.live (s .source)) i T.zeroItem)) packet (withScids (S.without seq (view s .scids)) (view s))) ⌝ }
+// The item x, at i, is taken out before its ID is held against the packet's, as in the Rust.
+fn take_step(s: Ids, seq: u64, x: Item, i: usize, packet: ConnectionId) -> FreedParts
+    requires { ⌜ (wellFormed s ≡ true) × (firstWith (T.hasSeq seq) (T.live (s .source)) ≡ some i) × (x ≡ getD (T.live (s .source)) i T.zeroItem) ⌝ }
+    ensures { λ r. ⌜ freedIn s r ≡ freedOf (S.taken (itemView (getD (T.live (s .source)) i T.zeroItem)) packet (withScids (S.without seq (view s .scids)) (view s))) ⌝ }
 {
     let t = s.source;
-    let x = t.items[i];
     let rest = tables::remove_at(t, i);
-    let mut w = s;
-    w.source = rest;
     let id = x.cid;
     if values::cid_eq(id, packet) {
-        return none_freed(w, PROTOCOL_VIOLATION);
+        return none_freed(rest, s.rpt, PROTOCOL_VIOLATION);
     }
     let low = tables::lowest_from(rest, s.rpt);
     match low {
-        Lowest::Seq(m) => {
-            w.rpt = m;
-            FreedOut {
-                ids: w,
-                answer: Numbered {
-                    refusal: ACCEPTED,
-                    present: x.has_path,
-                    number: x.path,
-                },
-            }
-        }
-        Lowest::Missing => none_freed(w, INTERNAL_ERROR),
+        Lowest::Seq(m) => FreedParts {
+            source: rest,
+            rpt: m,
+            answer: Numbered {
+                refusal: ACCEPTED,
+                present: x.has_path,
+                number: x.path,
+            },
+        },
+        Lowest::Missing => none_freed(rest, s.rpt, INTERNAL_ERROR),
     }
 }
 
-pub fn retire_scid_step(s: Ids, seq: u64, packet: ConnectionId) -> FreedOut
+pub fn retire_scid_step(s: Ids, seq: u64, packet: ConnectionId) -> FreedParts
     requires { ⌜ wellFormed s ≡ true ⌝ }
-    ensures { λ r. ⌜ r ≡ freedOf (S.retireScid seq packet (view s)) ⌝ }
+    ensures { λ r. ⌜ freedIn s r ≡ freedOf (S.retireScid seq packet (view s)) ⌝ }
 {
-    if s.next <= seq {
-        return none_freed(s, PROTOCOL_VIOLATION);
-    }
     let t = s.source;
+    if s.next <= seq {
+        return none_freed(t, s.rpt, PROTOCOL_VIOLATION);
+    }
     let f = tables::seek_seq(t, seq);
     if !f.present {
-        return none_freed(s, ACCEPTED);
+        return none_freed(t, s.rpt, ACCEPTED);
     }
     if t.count <= 1 {
-        return none_freed(s, INTERNAL_ERROR);
+        return none_freed(t, s.rpt, INTERNAL_ERROR);
     }
-    take_step(s, seq, f.place, packet)
+    let x = f.item;
+    take_step(s, seq, x, f.place, packet)
 }

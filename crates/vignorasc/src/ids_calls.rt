@@ -138,8 +138,11 @@ pub extern "C" fn vig_ids_add_scid(
 ) -> Counted
     ensures { λ r. ⌜ (r ≡ (issuedCall (now (t .entry)) (idFormed cid && tokenFormed token && pathFormed has path) (C.AddScid cid (tokenView token) advertise (given has path) leave)) .answer) × (now (t .exit) ≡ (issuedCall (now (t .entry)) (idFormed cid && tokenFormed token && pathFormed has path) (C.AddScid cid (tokenView token) advertise (given has path) leave)) .ids) ⌝ }
 {
-    let a = ids::add_scid(*t, cid, token, advertise, has, path, leave);
-    *t = a.ids;
+    let a = ids::add_scid_at(*t, cid, token, advertise, has, path, leave);
+    t.source = a.source;
+    t.advertise = a.advertise;
+    t.next = a.next;
+    t.rpt = a.rpt;
     a.answer
 }
 
@@ -164,8 +167,9 @@ pub extern "C" fn vig_ids_add_dcid(
 pub extern "C" fn vig_ids_retire_scid(t: &mut Ids, seq: u64, packet: ConnectionId) -> Numbered
     ensures { λ r. ⌜ (r ≡ (freedCall (now (t .entry)) (idFormed packet) (C.RetireScid seq packet)) .answer) × (now (t .exit) ≡ (freedCall (now (t .entry)) (idFormed packet) (C.RetireScid seq packet)) .ids) ⌝ }
 {
-    let a = ids::retire_scid(*t, seq, packet);
-    *t = a.ids;
+    let a = ids::retire_scid_at(*t, seq, packet);
+    t.source = a.source;
+    t.rpt = a.rpt;
     a.answer
 }
 

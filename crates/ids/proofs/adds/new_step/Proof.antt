@@ -7,6 +7,7 @@ use borrow.Author.Needs.{needs}
 use Rattle.ids_rules.specs.Steps.{addNew}
 use Rattle.ids.specs.Reading.{itemView, view, retiredOf}
 use Rattle.ids.specs.ReadingLaws.{retire-well}
+use Rattle.ids.specs.Acts.{held, retiredIn}
 use Rattle.ids.specs.AddWays.{new-is}
 use Rattle.ids.specs.AddLaws.{keeps}
 use Rattle.ids.proofs.adds.new_step.Statement.{statement}
@@ -17,42 +18,41 @@ no-pairs-requires c κs = search needs
 
 returns : tie.Need-returns
 returns c =
-    let s = c .before .before .before in
-    let a = s .args in
-    keeps (a .s) (s .pre .0) 4 (addNew (itemView (a .x)) (a .b) (view (a .s))) (new-is (itemView (a .x)) (a .b) (view (a .s)) true _ _ (lt-ltb _ _ (c .before .if1 .taken)) refl refl) _ (c .no-pairs .ensures)
+    let a = c .before .before .before .args in
+    λ h. keeps (held h) (h .well) 4 (addNew (itemView (a .x)) (a .b) (view (held h))) (new-is (itemView (a .x)) (a .b) (view (held h)) true _ _ (lt-ltb _ _ (c .before .if1 .taken)) refl refl) _ (ap (retiredIn (held h)) (c .no-pairs .ensures))
 
 queue-has-requires : tie.Need-queue-has-requires
-queue-has-requires c κs = let s = c .before .before .before in retire-well (s .args .s) (s .pre .0)
+queue-has-requires c κs = let h = c .before .before .pre .0 in retire-well (held h) (h .well)
 
 late-step-requires : tie.Need-late-step-requires
 late-step-requires c κs = search needs
 
 returns-2 : tie.Need-returns-2
 returns-2 c =
-    let s = c .before .before .before .before .before .before .before in
+    let s = c .before .before .before .before .before in
     let a = s .args in
-    let late = ap (λ (h : Bool). ltb (a .x .seq) (a .s .largest) && not h) (sym (c .before .before .before .queue-has .ensures)) in
-    c .late-step .ensures ∙ sym (ap retiredOf (new-is (itemView (a .x)) (a .b) (view (a .s)) false true _ (le-ltb _ _ (c .before .before .before .before .before .if1 .left)) (late ∙ c .before .if2 .taken) refl))
+    let late = ap (λ (h : Bool). ltb (a .x .seq) (a .largest) && not h) (sym (c .before .before .queue-has .ensures)) in
+    λ h. c .late-step .ensures h ∙ sym (ap retiredOf (new-is (itemView (a .x)) (a .b) (view (held h)) false true _ (le-ltb _ _ (c .before .before .before .if1 .left)) (late ∙ c .before .if2 .taken) refl))
 
 raise-step-requires : tie.Need-raise-step-requires
 raise-step-requires c κs = search needs
 
 returns-3 : tie.Need-returns-3
 returns-3 c =
-    let s = c .before .before .before .before .before .before .before .before .before in
+    let s = c .before .before .before .before .before .before in
     let a = s .args in
-    let late = ap (λ (h : Bool). ltb (a .x .seq) (a .s .largest) && not h) (sym (c .before .before .before .before .before .queue-has .ensures)) in
-    c .raise-step .ensures ∙ sym (ap retiredOf (new-is (itemView (a .x)) (a .b) (view (a .s)) false false true (le-ltb _ _ (c .before .before .before .before .before .before .before .if1 .left)) (late ∙ c .before .before .before .if2 .left) (lt-ltb _ _ (c .before .if3 .taken))))
+    let late = ap (λ (h : Bool). ltb (a .x .seq) (a .largest) && not h) (sym (c .before .before .before .queue-has .ensures)) in
+    λ h. c .raise-step .ensures h ∙ sym (ap retiredOf (new-is (itemView (a .x)) (a .b) (view (held h)) false false true (le-ltb _ _ (c .before .before .before .before .if1 .left)) (late ∙ c .before .before .if2 .left) (lt-ltb _ _ (c .before .if3 .taken))))
 
 append-step-requires : tie.Need-append-step-requires
 append-step-requires c κs = search needs
 
 returns-4 : tie.Need-returns-4
 returns-4 c =
-    let s = c .before .before .before .before .before .before .before .before .before in
+    let s = c .before .before .before .before .before .before in
     let a = s .args in
-    let late = ap (λ (h : Bool). ltb (a .x .seq) (a .s .largest) && not h) (sym (c .before .before .before .before .before .queue-has .ensures)) in
-    c .append-step .ensures ∙ sym (ap retiredOf (new-is (itemView (a .x)) (a .b) (view (a .s)) false false false (le-ltb _ _ (c .before .before .before .before .before .before .before .if1 .left)) (late ∙ c .before .before .before .if2 .left) (le-ltb _ _ (c .before .if3 .left))))
+    let late = ap (λ (h : Bool). ltb (a .x .seq) (a .largest) && not h) (sym (c .before .before .before .queue-has .ensures)) in
+    λ h. c .append-step .ensures h ∙ sym (ap retiredOf (new-is (itemView (a .x)) (a .b) (view (held h)) false false false (le-ltb _ _ (c .before .before .before .before .if1 .left)) (late ∙ c .before .before .if2 .left) (le-ltb _ _ (c .before .if3 .left))))
 
 pub new-step-spec : {M : Type 1} → statement M
 new-step-spec = tie.close (tie.spec no-pairs-requires returns queue-has-requires late-step-requires returns-2 raise-step-requires returns-3 append-step-requires returns-4)

@@ -1,16 +1,16 @@
--- The list of pairs is empty.
+-- The answer has no pair.
 use mathlib.Core.Path.{ap}
 use borrow.Author.Needs.{needs}
-use Rattle.tables.specs.declared.lower.Used.{Used}
-use Rattle.ids.specs.declared.answers.RetiredOut.{RetiredOut}
+use Rattle.ids.specs.declared.answers.RetiredAnswer.{RetiredAnswer}
+use Rattle.ids.specs.declared.answers.RetiredParts.{RetiredParts}
 use Rattle.ids.proofs.adds.no_pairs.Statement.{statement}
 use Rattle.ids.proofs.adds.no_pairs.Tie as tie
 
-no-pairs-requires : tie.Need-no-pairs-requires
-no-pairs-requires c κs = search needs
+none-retired-requires : tie.Need-none-retired-requires
+none-retired-requires c κs = search needs
 
 returns : tie.Need-returns
-returns c = ap {B = RetiredOut} (λ (u : Used). record { ids = c .before .args .s; answer = record { refusal = c .before .args .n; used = u } }) (c .no-pairs .ensures)
+returns c = ap {B = RetiredParts} (λ (a : RetiredAnswer). record { destination = c .before .args .d; retire = c .before .args .q; largest = c .before .args .largest; answer = a }) (c .none-retired .ensures)
 
 pub no-pairs-spec : {M : Type 1} → statement M
-no-pairs-spec = tie.close (tie.spec no-pairs-requires returns)
+no-pairs-spec = tie.close (tie.spec none-retired-requires returns)

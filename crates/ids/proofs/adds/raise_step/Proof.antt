@@ -9,35 +9,34 @@ use Rattle.tables.specs.declared.items.Table.{Table}
 use Rattle.tables.specs.declared.lower.Used.{Used}
 use Rattle.ids_state.specs.Laws.{facts}
 use Rattle.ids.specs.ReadingLaws.{destination-well, retire-well}
-use Rattle.ids.specs.Puts.{putLowered}
+use Rattle.ids.specs.Acts.{held, retiredIn}
 use Rattle.ids.specs.AddLaws.{split, raise-6, raise-4, raise-3, raise-0}
-use Rattle.ids.specs.declared.answers.RetiredOut.{RetiredOut}
 use Rattle.tables.specs.Table as T
 use Rattle.ids.proofs.adds.raise_step.Statement.{statement}
 use Rattle.ids.proofs.adds.raise_step.Tie as tie
 
 keep-from-requires : tie.Need-keep-from-requires
-keep-from-requires c κs = let s = c .before .before in destination-well (s .args .s) (s .pre .0)
+keep-from-requires c κs = let h = c .pre .0 in destination-well (held h) (h .well)
 
 sub-lower : tie.Need-sub-lower
 sub-lower c =
-    let s = c .before .before .before .before .before in
+    let s = c .before .before .before in
     let a = s .args in
-    let w = s .pre .0 in
+    let h = s .pre .0 in
     let ek = c .before .before .keep-from .ensures in
     let ck = ap (λ (z : Table). z .count) ek in
-    let sp = split (a .s) w (a .x) (s .pre .1) (a .b) in
+    let sp = split (held h) (h .well) (a .x) (s .pre .1) (a .b) in
     omega (arith, ck, sp)
 
 add-total : tie.Need-add-total
 add-total c =
-    let s = c .before .before .before .before .before .before in
+    let s = c .before .before .before .before in
     let a = s .args in
-    let w = s .pre .0 in
+    let h = s .pre .0 in
     let ek = c .before .before .before .keep-from .ensures in
     let ck = ap (λ (z : Table). z .count) ek in
-    let sp = split (a .s) w (a .x) (s .pre .1) (a .b) in
-    let bd = facts (a .s) w .bounds in
+    let sp = split (held h) (h .well) (a .x) (s .pre .1) (a .b) in
+    let bd = facts (held h) (h .well) .bounds in
     omega (arith, ck, sp, bd .retired-few, bd .destinations-few, bd .dlimit-most)
 
 no-pairs-requires : tie.Need-no-pairs-requires
@@ -45,83 +44,82 @@ no-pairs-requires c κs = search needs
 
 returns : tie.Need-returns
 returns c =
-    let s = c .before .before .before .before .before .before .before .before in
+    let s = c .before .before .before .before .before .before in
     let a = s .args in
-    let w = s .pre .0 in
     let ek = c .before .before .before .before .before .keep-from .ensures in
     let ck = ap (λ (z : Table). z .count) ek in
-    let sp = split (a .s) w (a .x) (s .pre .1) (a .b) in
-    raise-6 (a .s) w (a .x) (s .pre .1) (a .b) (omega (arith, c .before .if1 .taken, ck, sp)) _ (c .no-pairs .ensures)
+    λ h.
+    let sp = split (held h) (h .well) (a .x) (s .pre .1) (a .b) in
+    raise-6 (held h) (h .well) (a .x) (s .pre .1) (a .b) (omega (arith, c .before .if1 .taken, ck, sp)) _ (ap (retiredIn (held h)) (c .no-pairs .ensures))
 
 queue-lower-requires : tie.Need-queue-lower-requires
 queue-lower-requires c κs =
-    let s = c .before .before .before .before .before .before .before in
+    let s = c .before .before .before .before .before in
     let a = s .args in
-    let w = s .pre .0 in
+    let h = s .pre .0 in
     let ek = c .before .before .before .before .keep-from .ensures in
     let ck = ap (λ (z : Table). z .count) ek in
-    let sp = split (a .s) w (a .x) (s .pre .1) (a .b) in
-    (destination-well (a .s) w, retire-well (a .s) w, omega (arith, c .if1 .left, ck, sp))
+    let sp = split (held h) (h .well) (a .x) (s .pre .1) (a .b) in
+    (destination-well (held h) (h .well), retire-well (held h) (h .well), omega (arith, c .if1 .left, ck, sp))
 
 mul-most : tie.Need-mul-most
-mul-most c = let s = c .before .before .before .before .before .before .before .before .before in omega (arith, facts (s .args .s) (s .pre .0) .bounds .dlimit-most)
+mul-most c = let h = c .before .before .before .before .before .before .pre .0 in omega (arith, facts (held h) (h .well) .bounds .dlimit-most)
 
 no-pairs-requires-2 : tie.Need-no-pairs-requires-2
 no-pairs-requires-2 c κs = search needs
 
 returns-2 : tie.Need-returns-2
 returns-2 c =
-    let s = c .before .before .before .before .before .before .before .before .before .before .before in
+    let s = c .before .before .before .before .before .before .before .before in
     let a = s .args in
-    let w = s .pre .0 in
-    let ek = c .before .before .before .before .before .before .before .before .keep-from .ensures in
+    let ek = c .before .before .before .before .before .before .before .keep-from .ensures in
     let ck = ap (λ (z : Table). z .count) ek in
-    let sp = split (a .s) w (a .x) (s .pre .1) (a .b) in
-    raise-4 (a .s) w (a .x) (s .pre .1) (a .b) (omega (arith, c .before .before .before .before .if1 .left, ck, sp)) _ ek _ (c .before .before .before .queue-lower .ensures) _ (c .before .if2 .taken) (c .no-pairs2 .ensures)
+    λ h.
+    let sp = split (held h) (h .well) (a .x) (s .pre .1) (a .b) in
+    raise-4 (held h) (h .well) (a .x) (s .pre .1) (a .b) (omega (arith, c .before .before .before .if1 .left, ck, sp)) _ ek _ (c .before .before .queue-lower .ensures) _ (c .before .if2 .taken) (ap (retiredIn (held h)) (c .no-pairs2 .ensures))
 
 mul-room : tie.Need-mul-room
-mul-room c = let s = c .before .before .before .before .before .before .before .before .before .before .before in omega (arith, facts (s .args .s) (s .pre .0) .bounds .dlimit-most)
+mul-room c = let h = c .before .before .before .before .before .before .before .pre .0 in omega (arith, facts (held h) (h .well) .bounds .dlimit-most)
 
 sub-room : tie.Need-sub-room
-sub-room c = let s = c .before .before .before .before .before .before .before .before .before .before .before in omega (arith, facts (s .args .s) (s .pre .0) .bounds .dlimit-least)
+sub-room c = let h = c .before .before .before .before .before .before .before .pre .0 in omega (arith, facts (held h) (h .well) .bounds .dlimit-least)
 
 no-pairs-requires-3 : tie.Need-no-pairs-requires-3
 no-pairs-requires-3 c κs = search needs
 
 returns-3 : tie.Need-returns-3
 returns-3 c =
-    let s = c .before .before .before .before .before .before .before .before .before .before .before .before .before in
+    let s = c .before .before .before .before .before .before .before .before .before in
     let a = s .args in
-    let w = s .pre .0 in
-    let ek = c .before .before .before .before .before .before .before .before .before .before .keep-from .ensures in
+    let ek = c .before .before .before .before .before .before .before .before .keep-from .ensures in
     let ck = ap (λ (z : Table). z .count) ek in
-    let sp = split (a .s) w (a .x) (s .pre .1) (a .b) in
-    raise-3 (a .s) w (a .x) (s .pre .1) (a .b) (omega (arith, c .before .before .before .before .before .before .if1 .left, ck, sp)) _ ek _ (c .before .before .before .before .before .queue-lower .ensures) _ (c .before .before .before .if2 .left) (c .before .if3 .taken) (c .no-pairs3 .ensures)
+    λ h.
+    let sp = split (held h) (h .well) (a .x) (s .pre .1) (a .b) in
+    raise-3 (held h) (h .well) (a .x) (s .pre .1) (a .b) (omega (arith, c .before .before .before .before .if1 .left, ck, sp)) _ ek _ (c .before .before .before .queue-lower .ensures) _ (c .before .before .if2 .left) (c .before .if3 .taken) (ap (retiredIn (held h)) (c .no-pairs3 .ensures))
 
 used-lower-requires : tie.Need-used-lower-requires
-used-lower-requires c κs = let s = c .before .before .before .before .before .before .before .before .before .before .before .before in destination-well (s .args .s) (s .pre .0)
+used-lower-requires c κs = let h = c .before .before .before .before .before .before .before .before .pre .0 in destination-well (held h) (h .well)
 
 append-requires : tie.Need-append-requires
 append-requires c κs =
-    let s = c .before .before .before .before .before .before .before .before .before .before .before .before .before in
+    let s = c .before .before .before .before .before .before .before .before .before in
     let a = s .args in
-    let w = s .pre .0 in
-    let ek = c .before .before .before .before .before .before .before .before .before .before .keep-from .ensures in
+    let h = s .pre .0 in
+    let ek = c .before .before .before .before .before .before .before .before .keep-from .ensures in
     let ck = ap (λ (z : Table). z .count) ek in
-    let sp = split (a .s) w (a .x) (s .pre .1) (a .b) in
-    let bd = facts (a .s) w .bounds in
-    room-at (keep (T.atLeast (a .b)) (live (a .s .destination))) _ ek (omega (arith, c .before .if3 .left, ck, bd .dlimit-most))
+    let bd = facts (held h) (h .well) .bounds in
+    room-at (keep (T.atLeast (a .b)) (live (a .t))) _ ek (omega (arith, c .before .if3 .left, ck, bd .dlimit-most))
 
 returns-4 : tie.Need-returns-4
 returns-4 c =
-    let s = c .before .before .before .before .before .before .before .before .before .before .before .before .before .before in
+    let s = c .before .before .before .before .before .before .before .before .before .before in
     let a = s .args in
-    let w = s .pre .0 in
-    let ek = c .before .before .before .before .before .before .before .before .before .before .before .keep-from .ensures in
+    let ek = c .before .before .before .before .before .before .before .before .before .keep-from .ensures in
     let ck = ap (λ (z : Table). z .count) ek in
-    let sp = split (a .s) w (a .x) (s .pre .1) (a .b) in
-    raise-0 (a .s) w (a .x) (s .pre .1) (a .b) (omega (arith, c .before .before .before .before .before .before .before .if1 .left, ck, sp)) _ ek _ (c .before .before .before .before .before .before .queue-lower .ensures) _ (c .before .before .before .before .if2 .left) (c .before .before .if3 .left) _ (c .append .ensures)
-    (ap {B = RetiredOut} (λ (u : Used). record { ids = putLowered (c .append .result) (c .before .before .before .before .before .before .queue-lower .result) (a .b) (a .s); answer = record { refusal = 0; used = u } }) (c .before .used-lower .ensures))
+    λ h.
+    let sp = split (held h) (h .well) (a .x) (s .pre .1) (a .b) in
+    raise-0 (held h) (h .well) (a .x) (s .pre .1) (a .b) (omega (arith, c .before .before .before .before .before .if1 .left, ck, sp)) _ ek _ (c .before .before .before .before .queue-lower .ensures) _ (c .before .before .before .if2 .left) (c .before .before .if3 .left) _ (c .append .ensures)
+    (ap (λ (u : Used). retiredIn (held h) (record { destination = c .append .result; retire = c .before .before .before .before .queue-lower .result; largest = a .b; answer = record { refusal = 0; used = u } })) (c .before .used-lower .ensures))
 
 pub raise-step-spec : {M : Type 1} → statement M
 raise-step-spec = tie.close (tie.spec keep-from-requires sub-lower add-total no-pairs-requires returns queue-lower-requires mul-most no-pairs-requires-2 returns-2 mul-room sub-room no-pairs-requires-3 returns-3 used-lower-requires append-requires returns-4)

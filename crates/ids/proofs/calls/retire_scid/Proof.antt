@@ -1,40 +1,13 @@
--- The tests of the state and of the ID choose between the step and refusal 1.
-use mathlib.Core.Path.{_∙_}
-use mathlib.Core.Bool.{true, false}
-use mathlib.Core.Option.{none}
+-- What the call leaves, put into the state.
 use borrow.Author.Needs.{needs}
-use Rattle.lists.specs.Bools.{and-both}
-use Rattle.values.specs.Cid.{idFormed}
-use Rattle.ids_rules.specs.Calls.{step, RetireScid}
-use Rattle.ids_state.specs.Formed.{wellFormed}
-use Rattle.ids.specs.Reading.{view, freedAt, freedOf}
-use Rattle.ids.specs.CallLaws.{chosen, id-test}
 use Rattle.ids.proofs.calls.retire_scid.Statement.{statement}
 use Rattle.ids.proofs.calls.retire_scid.Tie as tie
 
-formed-requires : tie.Need-formed-requires
-formed-requires c κs = search needs
-
-cid-formed-requires : tie.Need-cid-formed-requires
-cid-formed-requires c κs = search needs
-
-retire-scid-step-requires : tie.Need-retire-scid-step-requires
-retire-scid-step-requires c κs =
-    let a = c .before .before .before .args in
-    and-both (wellFormed (a .s)) (idFormed (a .packet)) (id-test (a .s) _ (c .before .before .formed .ensures) (a .packet) _ (c .before .cid-formed .ensures) true (c .if1 .taken)) .0
-
-none-freed-requires : tie.Need-none-freed-requires
-none-freed-requires c κs = search needs
+retire-scid-at-requires : tie.Need-retire-scid-at-requires
+retire-scid-at-requires c κs = search needs
 
 returns : tie.Need-returns
-returns c =
-    let a = c .before .before .before .before .args in
-    c .retire-scid-step .ensures ∙ chosen (a .s) (idFormed (a .packet)) (freedOf (step (view (a .s)) (RetireScid (a .seq) (a .packet)))) (freedAt 1 none (a .s)) true (id-test (a .s) _ (c .before .before .before .formed .ensures) (a .packet) _ (c .before .before .cid-formed .ensures) true (c .before .if1 .taken))
-
-returns-2 : tie.Need-returns-2
-returns-2 c =
-    let a = c .before .before .before .before .args in
-    c .none-freed .ensures ∙ chosen (a .s) (idFormed (a .packet)) (freedOf (step (view (a .s)) (RetireScid (a .seq) (a .packet)))) (freedAt 1 none (a .s)) false (id-test (a .s) _ (c .before .before .before .formed .ensures) (a .packet) _ (c .before .before .cid-formed .ensures) false (c .before .if1 .left))
+returns c = λ i. record { ids = c .before .before .retire-scid-at .ensures .state i; answer = c .before .before .retire-scid-at .ensures .answer i }
 
 pub retire-scid-spec : {M : Type 1} → statement M
-retire-scid-spec = tie.close (tie.spec formed-requires cid-formed-requires retire-scid-step-requires none-freed-requires returns returns-2)
+retire-scid-spec = tie.close (tie.spec retire-scid-at-requires returns)

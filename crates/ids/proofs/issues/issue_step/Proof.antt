@@ -41,8 +41,8 @@ marked-requires c κs = let s = c .before .before .before .before .before .befor
 append-requires : tie.Need-append-requires
 append-requires c κs = let s = c .before .before .before .before .before .before .before .before .before .before .before in (source-well (s .args .s) (s .pre .0), omega (arith, c .before .before .before .before .if2 .left, facts (s .args .s) (s .pre .0) .bounds .capacity-most))
 
-add-w : tie.Need-add-w
-add-w c = let s = c .before .before .before .before .before .before .before .before .before .before .before .before in omega (arith, facts (s .args .s) (s .pre .0) .bounds .next-most)
+add-next : tie.Need-add-next
+add-next c = let s = c .before .before .before .before .before .before .before .before .before .before .before .before in omega (arith, facts (s .args .s) (s .pre .0) .bounds .next-most)
 
 returns-4 : tie.Need-returns-4
 returns-4 c =
@@ -51,4 +51,4 @@ returns-4 c =
     issue-0 (a .s) (s .pre .0) (a .rpt) (a .x) (a .advertise) _ (c .before .before .before .before .before .before .before .before .before .if1 .left) (c .before .before .before .before .before .if2 .left) (c .before .before .if3 .left) (s .pre .1) (s .pre .2) (s .pre .3) _ _ (c .append .ensures) (c .before .marked .ensures) refl
 
 pub issue-step-spec : {M : Type 1} → statement M
-issue-step-spec = tie.close (tie.spec none-issued-requires returns none-issued-requires-2 returns-2 none-issued-requires-3 returns-3 marked-requires append-requires add-w returns-4)
+issue-step-spec = tie.close (tie.spec none-issued-requires returns none-issued-requires-2 returns-2 none-issued-requires-3 returns-3 marked-requires append-requires add-next returns-4)

@@ -1,4 +1,4 @@
--- `vignorasc::vig_ids_add_scid` meets its contract: a walk of its MIR, by hand. The table behind the reference is copied whole and passed to `ids::add_scid`; of the answer, the table is stored whole behind the reference, at which the borrow is closed.
+-- `vignorasc::vig_ids_add_scid` meets its contract: a walk of its MIR, by hand. The state behind the reference is copied whole and passed to `ids::add_scid_at`; what it may change is stored behind the reference, field by field, and the borrow is closed.
 -- All that the proof knows of the callee is that it meets its contract.
 -- Assumes nothing.
 use mathlib.Core.Path.{_≡_, refl, ap}
@@ -19,12 +19,12 @@ use contract.Monad.{Fun, fact}
 use contract.Running.{givenOf, tables, tablesOf}
 use types.Kit.{Given, ‵, raw, some, later, _⊛_, ⋆, _$_, _∵_, !, qed, by, move, keep, drop, use1, split, join, pick, rewrite, fsplit, fsplit3, fjoin, fjoin3, feqI, suffices, frame, await, done}
 use types.Run.{look, look-raw, init, store-raw, forget, stop, hop, fld, from, load, unit-lit, of-opd, and-then, no-more, assigns, land, returns, enter, alloc1, alloc0, params1, pass1, pass0, free1, free0}
-use types.Part.{whole, sub, look-in}
+use types.Part.{whole, sub, look-in, store-in}
 use types.SemTy.{Body}
 use sound.WpLaws.{FmC, fmOf, WpFn-mono}
 use denote.RattleType.{owns}
 use denote.Laws.{Is, shows}
-use denote.Memory.{mem, partAt}
+use denote.Memory.{mem, cellAt}
 use denote.Plain.{uint-vals, uint-tells, uint-makes, uint-lawful, bool-vals, bool-tells, bool-makes, bool-lawful}
 use denote.Builtin.{u8, u16, u32, u64, usize, bool}
 use denote.Ref.{RefT, MutRef, ShrRef, ptr-vals, mut-tells, shr-tells}
@@ -46,6 +46,8 @@ use Rattle.values.specs.Cid.{idFormed}
 use Rattle.values.specs.Token.{tokenFormed, tokenView}
 use Rattle.ids_rules.specs.Calls as C
 use Rattle.ids.specs.Reading.{issuedCall, pathFormed}
+use Rattle.ids.specs.Puts.{putIssued}
+use Rattle.ids.specs.Acts.{Leaves}
 use Rattle.ids_state.specs.declared.state.Ids.{Ids}
 use Rattle.ids_state.proofs.state.Ids as Idsᵀ
 use Rattle.ids_state.proofs.state.Ids.Laws as Idsᴸ
@@ -56,15 +58,20 @@ use Rattle.values.specs.declared.token.Token.{Token}
 use Rattle.values.proofs.token.Token as Tokenᵀ
 use Rattle.values.proofs.token.Token.Laws as Tokenᴸ
 use Rattle.ids.specs.declared.answers.IssuedOut.{IssuedOut}
-use Rattle.ids.proofs.answers.IssuedOut as IssuedOutᵀ
-use Rattle.ids.proofs.answers.IssuedOut.Laws as IssuedOutᴸ
+use Rattle.ids.specs.declared.answers.IssuedParts.{IssuedParts}
+use Rattle.ids.proofs.answers.IssuedParts as IssuedPartsᵀ
+use Rattle.ids.proofs.answers.IssuedParts.Laws as IssuedPartsᴸ
+use Rattle.tables.proofs.items.Table as Tableᵀ
+use Rattle.tables.proofs.items.Table.Laws as Tableᴸ
+use Rattle.tables.proofs.sequences.Queue as Queueᵀ
+use Rattle.tables.proofs.sequences.Queue.Laws as Queueᴸ
 use Rattle.values.specs.declared.answers.Counted.{Counted}
 use Rattle.values.proofs.answers.Counted as Countedᵀ
 use Rattle.values.proofs.answers.Counted.Laws as Countedᴸ
-use Rattle.ids.proofs.add_scid as g
-use Rattle.ids.proofs.add_scid.Symbol as g-def
-use Rattle.ids.proofs.add_scid.Symbol.{name as #g}
-use Rattle.ids.proofs.add_scid.Met as g-thm
+use Rattle.ids.proofs.add_scid_at as g
+use Rattle.ids.proofs.add_scid_at.Symbol as g-def
+use Rattle.ids.proofs.add_scid_at.Symbol.{name as #g}
+use Rattle.ids.proofs.add_scid_at.Met as g-thm
 use Rattle.vignorasc.proofs.ids_calls.vig_ids_add_scid.Key.{name as #f}
 use Rattle.vignorasc.proofs.ids_calls.vig_ids_add_scid as f
 use Rattle.vignorasc.proofs.ids_calls.vig_ids_add_scid.Statement as stated
@@ -73,6 +80,10 @@ use Rattle.vignorasc.proofs.ids_calls.vig_ids_add_scid.Code as code
 -- what the call by value gives
 abbrev answered : Ids → ConnectionId → Token → Bool → Bool → ℕ → Bool → IssuedOut
 answered s cid token advertise has path leave = issuedCall s (idFormed cid && tokenFormed token && pathFormed has path) (C.AddScid cid (tokenView token) advertise (given has path) leave)
+
+-- the state with the fields that the call may change
+abbrev stored : Ids → IssuedParts → Ids
+stored h r = putIssued (r .source) (r .advertise) (r .next) (r .rpt) h
 
 abbrev Arg : Type 0
 Arg = (RefT Ids × (ConnectionId × (Token × (Bool × (Bool × (ℕ × (Bool × Unit {0})))))))
@@ -86,8 +97,8 @@ module _ {M : Type 1} (𝓤 : URA M) (H : Heap 𝓤) (A : Atoms 𝓤) (at-mem : 
   G = tripleOf 𝓤 H A g.signature (g.spec 𝓤 H A at-mem run)
 
   -- of the callee's `ensured`, the clause alone
-  got-of : (h : Ids) (x1 : ConnectionId) (x2 : Token) (x3 : Bool) (x4 : Bool) (x5 : ℕ) (x6 : Bool) (r : IssuedOut) → ent 𝓤 (ensured 𝓤 H A g.ended (g.clauses 𝓤 H A at-mem run) tt (h, (x1, (x2, (x3, (x4, (x5, (x6, tt))))))) tt r) (fact 𝓤 (r ≡ answered h x1 x2 x3 x4 x5 x6))
-  got-of h x1 x2 x3 x4 x5 x6 r = exE 𝓤 _ (λ ws. snd∗ 𝓤 (sem 𝓤 H A (lasts g.ended tt (h, (x1, (x2, (x3, (x4, (x5, (x6, tt))))))) ws)) (fact 𝓤 (r ≡ answered h x1 x2 x3 x4 x5 x6)))
+  got-of : (h : Ids) (x1 : ConnectionId) (x2 : Token) (x3 : Bool) (x4 : Bool) (x5 : ℕ) (x6 : Bool) (r : IssuedParts) → ent 𝓤 (ensured 𝓤 H A g.ended (g.clauses 𝓤 H A at-mem run) tt (h, (x1, (x2, (x3, (x4, (x5, (x6, tt))))))) tt r) (fact 𝓤 (Leaves (stored h r) ((answered h x1 x2 x3 x4 x5 x6) .ids) (r .answer) ((answered h x1 x2 x3 x4 x5 x6) .answer)))
+  got-of h x1 x2 x3 x4 x5 x6 r = exE 𝓤 _ (λ ws. snd∗ 𝓤 (sem 𝓤 H A (lasts g.ended tt (h, (x1, (x2, (x3, (x4, (x5, (x6, tt))))))) ws)) (fact 𝓤 (Leaves (stored h r) ((answered h x1 x2 x3 x4 x5 x6) .ids) (r .answer) ((answered h x1 x2 x3 x4 x5 x6) .answer))))
 
 module _ {M : Type 1} (𝓤 : URA M) (H : Heap 𝓤) (A : Atoms 𝓤) (W : Given 𝓤 H A) (at-mem : Memory → SProp 𝓤) (run : Routine → Fun 𝓤) (κ : Lft) (q : Share) (b o : ℕ) (γ : GName) (h : Ids) (x1 : ConnectionId) (x2 : Token) (x3 : Bool) (x4 : Bool) (x5 : ℕ) (x6 : Bool) (is1 : Is ConnectionIdᵀ.the-row x1 (LL.vals ConnectionIdᵀ.the-type ConnectionIdᴸ.the-laws x1)) (is2 : Is Tokenᵀ.the-row x2 (LL.vals Tokenᵀ.the-type Tokenᴸ.the-laws x2)) (is3 : Is bool x3 (bool-vals x3)) (is4 : Is bool x4 (bool-vals x4)) (is5 : Is u64 x5 (uint-vals w64 x5)) (is6 : Is bool x6 (bool-vals x6)) where
   abbrev x : Arg
@@ -96,17 +107,21 @@ module _ {M : Type 1} (𝓤 : URA M) (H : Heap 𝓤) (A : Atoms 𝓤) (W : Given
   abbrev tv : Ids → Val
   tv y = LL.val Idsᵀ.the-type Idsᴸ.the-laws y
 
+  -- what closing the borrow asks
+  made : (r : IssuedParts) → Is Idsᵀ.the-row h (tv h ∷ []) → {v : Val} → Is IssuedPartsᵀ.the-row r (v ∷ []) → Is Idsᵀ.the-row (stored h r) (tv (stored h r) ∷ [])
+  made r was is = LL.owes Idsᵀ.the-type Idsᴸ.the-laws (stored h r) (LL.owed IssuedPartsᵀ.the-type IssuedPartsᴸ.the-laws r _ is .0, (LL.owed Idsᵀ.the-type Idsᴸ.the-laws h _ was .1 .0, (LL.owed Idsᵀ.the-type Idsᴸ.the-laws h _ was .1 .1 .0, (LL.owed Idsᵀ.the-type Idsᴸ.the-laws h _ was .1 .1 .1 .0, (LL.owed Idsᵀ.the-type Idsᴸ.the-laws h _ was .1 .1 .1 .1 .0, (LL.owed Idsᵀ.the-type Idsᴸ.the-laws h _ was .1 .1 .1 .1 .1 .0, (LL.owed Idsᵀ.the-type Idsᴸ.the-laws h _ was .1 .1 .1 .1 .1 .1 .0, (LL.owed IssuedPartsᵀ.the-type IssuedPartsᴸ.the-laws r _ is .1 .1 .0, (LL.owed IssuedPartsᵀ.the-type IssuedPartsᴸ.the-laws r _ is .1 .1 .1 .0, (LL.owed Idsᵀ.the-type Idsᴸ.the-laws h _ was .1 .1 .1 .1 .1 .1 .1 .1 .1 .0, (LL.owed IssuedPartsᵀ.the-type IssuedPartsᴸ.the-laws r _ is .1 .0, (LL.owed Idsᵀ.the-type Idsᴸ.the-laws h _ was .1 .1 .1 .1 .1 .1 .1 .1 .1 .1 .1 .0, tt))))))))))))
+
   abbrev at : (List Val × (List Val × (List Val × (List Val × (List Val × (List Val × (List Val × Unit {0})))))))
   at = (vptr b o ∷ [], ((LL.val ConnectionIdᵀ.the-type ConnectionIdᴸ.the-laws x1) ∷ [], ((LL.val Tokenᵀ.the-type Tokenᴸ.the-laws x2) ∷ [], ((vbool x3) ∷ [], ((vbool x4) ∷ [], ((vint w64 x5) ∷ [], ((vbool x6) ∷ [], tt)))))))
 
   abbrev Post : Val → SProp 𝓤
   Post = walkOf 𝓤 H A f.ended stayed (f.clauses 𝓤 H A at-mem run) .post (((κ, tt), (q, tt), tt, x, at), tt)
 
-  exits : (r : IssuedOut) → Is Countedᵀ.the-row (r .answer) (LL.val Countedᵀ.the-type Countedᴸ.the-laws (r .answer) ∷ []) → r ≡ answered h x1 x2 x3 x4 x5 x6 → ent 𝓤 (⋆ 𝓤 H A (‵ (fobs γ (Idsᵀ.the-row .coded .code (r .ids))) ∷ ‵ (fbor κ (Body (mem Idsᵀ.the-row) b o γ)) ∷ ‵ (flft κ q) ∷ [])) (Post (LL.val Countedᵀ.the-type Countedᴸ.the-laws (r .answer)))
+  exits : (r : IssuedParts) → Is Countedᵀ.the-row (r .answer) (LL.val Countedᵀ.the-type Countedᴸ.the-laws (r .answer) ∷ []) → Leaves (stored h r) ((answered h x1 x2 x3 x4 x5 x6) .ids) (r .answer) ((answered h x1 x2 x3 x4 x5 x6) .answer) → ent 𝓤 (⋆ 𝓤 H A (‵ (fobs γ (Idsᵀ.the-row .coded .code (stored h r))) ∷ ‵ (fbor κ (Body (mem Idsᵀ.the-row) b o γ)) ∷ ‵ (flft κ q) ∷ [])) (Post (LL.val Countedᵀ.the-type Countedᴸ.the-laws (r .answer)))
   exits r is e =
-      qed W (‵ (fobs γ (Idsᵀ.the-row .coded .code (r .ids))) ∷ ‵ (fbor κ (Body (mem Idsᵀ.the-row) b o γ)) ∷ ‵ (flft κ q) ∷ []) ∵
-      suffices ! _ (ends-at 𝓤 H A f.ended stayed (f.clauses 𝓤 H A at-mem run) W (((κ, tt), (q, tt), tt, x, at), tt) (LL.val Countedᵀ.the-type Countedᴸ.the-laws (r .answer)) (r .answer) (r .ids, (tt, (tt, (tt, (tt, (tt, (tt, tt))))))) (tt, (tt, (tt, (tt, (tt, (tt, (tt, tt)))))))) $
-      says ! (λ i. e i .answer, λ i. e i .ids) $ nothing ! $ move ! (3 ∷ 0 ∷ []) $ join ! $ frame ! $ feqI ! (List Val) (vptr b o ∷ []) (vptr b o ∷ []) refl $ fjoin3 ! $
+      qed W (‵ (fobs γ (Idsᵀ.the-row .coded .code (stored h r))) ∷ ‵ (fbor κ (Body (mem Idsᵀ.the-row) b o γ)) ∷ ‵ (flft κ q) ∷ []) ∵
+      suffices ! _ (ends-at 𝓤 H A f.ended stayed (f.clauses 𝓤 H A at-mem run) W (((κ, tt), (q, tt), tt, x, at), tt) (LL.val Countedᵀ.the-type Countedᴸ.the-laws (r .answer)) (r .answer) (stored h r, (tt, (tt, (tt, (tt, (tt, (tt, tt))))))) (tt, (tt, (tt, (tt, (tt, (tt, (tt, tt)))))))) $
+      says ! (e .answer, e .state) $ nothing ! $ move ! (3 ∷ 0 ∷ []) $ join ! $ frame ! $ feqI ! (List Val) (vptr b o ∷ []) (vptr b o ∷ []) refl $ fjoin3 ! $
       nothing ! $ owned ! bool (Is bool) (bool-makes 𝓤 H A W) x6 _ is6 $ fjoin ! $ owned ! u64 (Is u64) (uint-makes 𝓤 H A W w64) x5 _ is5 $ fjoin ! $ owned ! bool (Is bool) (bool-makes 𝓤 H A W) x4 _ is4 $ fjoin ! $ owned ! bool (Is bool) (bool-makes 𝓤 H A W) x3 _ is3 $ fjoin ! $ owned ! Tokenᵀ.the-row (Is Tokenᵀ.the-row) (LL.makes Tokenᵀ.the-type Tokenᴸ.the-plain 𝓤 H A) x2 _ is2 $ fjoin ! $ owned ! ConnectionIdᵀ.the-row (Is ConnectionIdᵀ.the-row) (LL.makes ConnectionIdᵀ.the-type ConnectionIdᴸ.the-plain 𝓤 H A) x1 _ is1 $ fjoin ! $ move ! (1 ∷ 0 ∷ []) $ fjoin ! $ owned ! Countedᵀ.the-row (Is Countedᵀ.the-row) (LL.makes Countedᵀ.the-type Countedᴸ.the-plain 𝓤 H A) (r .answer) _ is $ move ! (1 ∷ 0 ∷ []) $ done !
 
   -- what the callee's triple binds outside, and what it asks at entry
@@ -128,17 +143,22 @@ module _ {M : Type 1} (𝓤 : URA M) (H : Heap 𝓤) (A : Atoms 𝓤) (W : Given
         assigns ! (of-opd ! (load ! (from ! (hop ! (look ! 23 refl) (stop !))) (look-raw ! 0 refl))) (from ! (stop !)) (init ! 7 refl (LL.lawful Idsᵀ.the-type Idsᴸ.the-laws 𝓤 H A W .typed h _ was .0)) $
         -- the call
         nothing ! $ use1 W (raw (G 𝓤 H A at-mem run .pre to-g)) (goes-g was) $ calls-at ! fm (G 𝓤 H A at-mem run) known to-g (and-then ! (load ! (from ! (stop !)) (look ! 8 refl)) (and-then ! (load ! (from ! (stop !)) (look ! 22 refl)) (and-then ! (load ! (from ! (stop !)) (look ! 20 refl)) (and-then ! (load ! (from ! (stop !)) (look ! 18 refl)) (and-then ! (load ! (from ! (stop !)) (look ! 16 refl)) (and-then ! (load ! (from ! (stop !)) (look ! 14 refl)) (and-then ! (load ! (from ! (stop !)) (look ! 12 refl)) (no-more !)))))))) (λ v.
-        use1 W (later (some (λ (r : IssuedOut). (‵ ftrue ⊛ ‵ (IssuedOutᵀ.the-row .own r (v ∷ []))) ⊛ raw (ensured 𝓤 H A g.ended (g.clauses 𝓤 H A at-mem run) tt (h, (x1, (x2, (x3, (x4, (x5, (x6, tt))))))) tt r)))) (id⊢ 𝓤 _) $ await ! tt $ pick ! (λ r.
-        split ! $ move ! (1 ∷ []) $ use1 W (raw (fact 𝓤 (r ≡ answered h x1 x2 x3 x4 x5 x6))) (got-of 𝓤 H A at-mem run h x1 x2 x3 x4 x5 x6 r) $ heard ! (r ≡ answered h x1 x2 x3 x4 x5 x6) (λ e. split ! $ drop ! $
-        peeks ! IssuedOutᵀ.the-row (Is IssuedOutᵀ.the-row) (shows 𝓤 H A IssuedOutᵀ.the-row) r (v ∷ []) (λ is. land ! (from ! (stop !)) (init ! 10 refl (LL.lawful IssuedOutᵀ.the-type IssuedOutᴸ.the-laws 𝓤 H A W .typed r _ is .0)) $
-        rewrite ! 10 (λ (u : Val). ‵ (fat fullShare IssuedOutᴸ.mir l8 0 u)) (ap only (LL.tells IssuedOutᵀ.the-type IssuedOutᴸ.the-laws r _ is)) refl $
-        assigns ! (of-opd ! (load ! (from ! (fld ! refl (stop !))) (look-in ! 10 (sub ! 0 refl (whole !))))) (from ! (hop ! (look ! 24 refl) (stop !))) (store-raw ! 1 refl (LL.lawful Idsᵀ.the-type Idsᴸ.the-laws 𝓤 H A W .typed (r .ids) _ (LL.owed IssuedOutᵀ.the-type IssuedOutᴸ.the-laws r _ is .0) .0)) $
-        assigns ! (of-opd ! (load ! (from ! (fld ! refl (stop !))) (look-in ! 10 (sub ! 1 refl (whole !))))) (from ! (stop !)) (init ! 26 refl (LL.lawful Countedᵀ.the-type Countedᴸ.the-laws 𝓤 H A W .typed (r .answer) _ (LL.owed IssuedOutᵀ.the-type IssuedOutᴸ.the-laws r _ is .1 .0) .0)) $
-        -- the borrow is closed at the new table
-        drop ! $ move ! (1 ∷ []) $ drop ! $ owned ! Idsᵀ.the-row (Is Idsᵀ.the-row) (LL.makes Idsᵀ.the-type Idsᴸ.the-plain 𝓤 H A) (r .ids) _ (LL.owed IssuedOutᵀ.the-type IssuedOutᴸ.the-laws r _ is .0) $ move ! (1 ∷ 0 ∷ []) $ closes ! tt Idsᵀ.the-row (r .ids) (tv (r .ids) ∷ []) b o $
+        use1 W (later (some (λ (r : IssuedParts). (‵ ftrue ⊛ ‵ (IssuedPartsᵀ.the-row .own r (v ∷ []))) ⊛ raw (ensured 𝓤 H A g.ended (g.clauses 𝓤 H A at-mem run) tt (h, (x1, (x2, (x3, (x4, (x5, (x6, tt))))))) tt r)))) (id⊢ 𝓤 _) $ await ! tt $ pick ! (λ r.
+        split ! $ move ! (1 ∷ []) $ use1 W (raw (fact 𝓤 (Leaves (stored h r) ((answered h x1 x2 x3 x4 x5 x6) .ids) (r .answer) ((answered h x1 x2 x3 x4 x5 x6) .answer)))) (got-of 𝓤 H A at-mem run h x1 x2 x3 x4 x5 x6 r) $ heard ! (Leaves (stored h r) ((answered h x1 x2 x3 x4 x5 x6) .ids) (r .answer) ((answered h x1 x2 x3 x4 x5 x6) .answer)) (λ e. split ! $ drop ! $
+        peeks ! IssuedPartsᵀ.the-row (Is IssuedPartsᵀ.the-row) (shows 𝓤 H A IssuedPartsᵀ.the-row) r (v ∷ []) (λ is. land ! (from ! (stop !)) (init ! 10 refl (LL.lawful IssuedPartsᵀ.the-type IssuedPartsᴸ.the-laws 𝓤 H A W .typed r _ is .0)) $
+        rewrite ! 10 (λ (u : Val). ‵ (fat fullShare IssuedPartsᴸ.mir l8 0 u)) (ap only (LL.tells IssuedPartsᵀ.the-type IssuedPartsᴸ.the-laws r _ is)) refl $
+        -- the cell is typed again, and the fields are stored
+        drop ! $ use1 W (‵ (fat fullShare Idsᴸ.mir b o (tv h))) (W .laws .raw-at fullShare Idsᴸ.mir b o (tv h)) $
+        assigns ! (of-opd ! (load ! (from ! (fld ! refl (stop !))) (look-in ! 9 (sub ! 0 refl (whole !))))) (from ! (hop ! (look ! 23 refl) (fld ! refl (stop !)))) (store-in ! 0 (sub ! 0 refl (whole !)) (LL.lawful Tableᵀ.the-type Tableᴸ.the-laws 𝓤 H A W .typed (r .source) _ (LL.owed IssuedPartsᵀ.the-type IssuedPartsᴸ.the-laws r _ is .0) .0)) $
+        assigns ! (of-opd ! (load ! (from ! (fld ! refl (stop !))) (look-in ! 9 (sub ! 1 refl (whole !))))) (from ! (hop ! (look ! 23 refl) (fld ! refl (stop !)))) (store-in ! 0 (sub ! 10 refl (whole !)) (LL.lawful Queueᵀ.the-type Queueᴸ.the-laws 𝓤 H A W .typed (r .advertise) _ (LL.owed IssuedPartsᵀ.the-type IssuedPartsᴸ.the-laws r _ is .1 .0) .0)) $
+        assigns ! (of-opd ! (load ! (from ! (fld ! refl (stop !))) (look-in ! 9 (sub ! 2 refl (whole !))))) (from ! (hop ! (look ! 23 refl) (fld ! refl (stop !)))) (store-in ! 0 (sub ! 7 refl (whole !)) (uint-lawful 𝓤 H A W w64 .typed (r .next) _ (LL.owed IssuedPartsᵀ.the-type IssuedPartsᴸ.the-laws r _ is .1 .1 .0) .0)) $
+        assigns ! (of-opd ! (load ! (from ! (fld ! refl (stop !))) (look-in ! 9 (sub ! 3 refl (whole !))))) (from ! (hop ! (look ! 23 refl) (fld ! refl (stop !)))) (store-in ! 0 (sub ! 8 refl (whole !)) (uint-lawful 𝓤 H A W w64 .typed (r .rpt) _ (LL.owed IssuedPartsᵀ.the-type IssuedPartsᴸ.the-laws r _ is .1 .1 .1 .0) .0)) $
+        assigns ! (of-opd ! (load ! (from ! (fld ! refl (stop !))) (look-in ! 9 (sub ! 4 refl (whole !))))) (from ! (stop !)) (init ! 25 refl (LL.lawful Countedᵀ.the-type Countedᴸ.the-laws 𝓤 H A W .typed (r .answer) _ (LL.owed IssuedPartsᵀ.the-type IssuedPartsᴸ.the-laws r _ is .1 .1 .1 .1 .0) .0)) $
+        -- the borrow is closed at the new state
+        use1 W (‵ (cellAt fullShare (Idsᵀ.the-row .mir) (tv (stored h r) ∷ []) b o)) (W .laws .at-raw fullShare Idsᴸ.mir b o (tv (stored h r))) $ move ! (1 ∷ []) $ drop ! $ owned ! Idsᵀ.the-row (Is Idsᵀ.the-row) (LL.makes Idsᵀ.the-type Idsᴸ.the-plain 𝓤 H A) (stored h r) _ (made r was is) $ move ! (1 ∷ 0 ∷ []) $ closes ! tt Idsᵀ.the-row (stored h r) (tv (stored h r) ∷ []) b o $
         returns ! (look ! 23 refl) $ forget ! 5 refl $ forget ! 7 refl $ forget ! 9 refl $ forget ! 11 refl $ forget ! 13 refl $ forget ! 15 refl $ forget ! 17 refl $ forget ! 19 refl $ forget ! 21 refl $ forget ! 23 refl $
         move ! (23 ∷ 24 ∷ []) $ free1 ! $ move ! (21 ∷ 22 ∷ []) $ free1 ! $ move ! (19 ∷ 20 ∷ []) $ free1 ! $ move ! (17 ∷ 18 ∷ []) $ free1 ! $ move ! (15 ∷ 16 ∷ []) $ free1 ! $ move ! (13 ∷ 14 ∷ []) $ free1 ! $ move ! (11 ∷ 12 ∷ []) $ free1 ! $ move ! (9 ∷ 10 ∷ []) $ free1 ! $ move ! (7 ∷ 8 ∷ []) $ free1 ! $ move ! (5 ∷ 6 ∷ []) $ free1 ! $ free0 ! $
-        keep ! (0 ∷ 1 ∷ 2 ∷ []) $ by ! (exits r (LL.owed IssuedOutᵀ.the-type IssuedOutᴸ.the-laws r _ is .1 .0) e)))))))))))))))))
+        keep ! (0 ∷ 1 ∷ 2 ∷ []) $ by ! (exits r (LL.owed IssuedPartsᵀ.the-type IssuedPartsᴸ.the-laws r _ is .1 .1 .1 .1 .0) e)))))))))))))))))
 
 module _ {M : Type 1} (𝓤 : URA M) (H : Heap 𝓤) (A : Atoms 𝓤) (W : Given 𝓤 H A) (at-mem : Memory → SProp 𝓤) (run : Routine → Fun 𝓤) where
   walks : (C : Calls 𝓤 H) (Λ : Loops 𝓤 H) → FmC 𝓤 H (W .laws) C → Triple 𝓤 (C #g) (G 𝓤 H A at-mem run) → Walks 𝓤 H A f.ended stayed (WpFn 𝓤 H C Λ code.function) (f.clauses 𝓤 H A at-mem run)
@@ -160,4 +180,4 @@ vig-ids-add-scid-spec 𝓤 H 𝓜 𝓖 𝓡 =
     entered 𝓤 H (tripleOf 𝓤 H (𝓖 .A) f.signature (f.spec 𝓤 H (𝓖 .A) (𝓜 .mem) (𝓡 .run)))
     (tables 𝓤 H 𝓜 𝓡 code.env .C) (tables 𝓤 H 𝓜 𝓡 code.env .Λ) #f code.function (code.unfolded 𝓤 H 𝓜 𝓡)
     (meets 𝓤 H (𝓖 .A) (givenOf 𝓤 H 𝓜 𝓖) (𝓜 .mem) (𝓡 .run) (tablesOf 𝓤 H 𝓜 (tables 𝓤 H 𝓜 𝓡 code.env))
-    (cited 𝓤 H (G 𝓤 H (𝓖 .A) (𝓜 .mem) (𝓡 .run)) 𝓜 𝓡 code.env #g g-def.routine code.calls-ids·add-scid (g-thm.met 𝓤 H 𝓜 𝓖 𝓡)))
+    (cited 𝓤 H (G 𝓤 H (𝓖 .A) (𝓜 .mem) (𝓡 .run)) 𝓜 𝓡 code.env #g g-def.routine code.calls-ids·add-scid-at (g-thm.met 𝓤 H 𝓜 𝓖 𝓡)))
