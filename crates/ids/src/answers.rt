@@ -69,7 +69,7 @@ pub struct RetiredOut {
     pub answer: RetiredAnswer,
 }
 
-// What the calls of acts.rt give: the fields that the call may change, and its answer.
+// What the forms of acts.rt give, and the steps of add_dcid: the fields that the call may change, and its answer.
 pub struct TableOut {
     pub table: Table,
     pub answer: Done,

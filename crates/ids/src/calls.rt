@@ -1,5 +1,6 @@
 // The published calls, in the order of the Rust's ConnectionIdMgr. Each tests the state and its arguments first: what is not of its form is refused with 1,
-// and the state comes back as it was. docs/RULES.md, "Source IDs", "Destination IDs" and "Marks, queues and lookups", has the steps after that.
+// and the state comes back as it was. docs/RULES.md, "Source IDs", "Destination IDs" and "Marks, queues and lookups", has the steps after that. Where acts.rt
+// has a call as the fields that it may change, those are put into the state here.
 ghost use mathlib.Core.Path.{_≡_};
 ghost use mathlib.Core.Bool.{true, _&&_};
 ghost use Rattle.lists.specs.Defs.{given};

@@ -1,5 +1,5 @@
-// The published calls of the ids, over a state that the host lends: the answer is the call's answer, and the state is left as the call leaves it. Only the fields that a
-// call may change are stored.
+// The published calls of the ids, over a state that the host lends: the answer is the call's answer, and the state is left as the call leaves it. A call
+// stores the fields that it may change, add_dcid the whole state.
 ghost use mathlib.Core.Path.{_≡_};
 ghost use mathlib.Core.Bool.{true, _&&_};
 ghost use Rattle.lists.specs.Defs.{given};
