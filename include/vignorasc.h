@@ -140,6 +140,8 @@ vig_timed vig_timers_get(const vig_timer_table *t, uint64_t timer);
 vig_done vig_timers_stop(vig_timer_table *t, uint64_t timer);
 vig_timed vig_timers_next_timeout(const vig_timer_table *t);
 vig_flagged vig_timers_is_expired(const vig_timer_table *t, uint64_t timer, vig_moment moment);
+/* Every timer is stopped. */
+vig_done vig_timers_clear(vig_timer_table *t);
 
 /* ---- RULES.md, "Well-formed IDs" ---- */
 

@@ -25,6 +25,7 @@ extern "C" {
     fn vig_timers_stop(t: &mut TimerTable, timer: u64) -> Done;
     fn vig_timers_next_timeout(t: &TimerTable) -> Timed;
     fn vig_timers_is_expired(t: &TimerTable, timer: u64, now: Moment) -> Flagged;
+    fn vig_timers_clear(t: &mut TimerTable) -> Done;
 }
 
 extern "C" {
@@ -34,6 +35,7 @@ extern "C" {
     fn val_timers_stop(t: TimerTable, timer: u64) -> TimersOut;
     fn val_timers_next_timeout(t: TimerTable) -> Timed;
     fn val_timers_is_expired(t: TimerTable, timer: u64, now: Moment) -> Flagged;
+    fn val_timers_clear(t: TimerTable) -> TimersOut;
 }
 
 impl TimerTable {
@@ -184,6 +186,14 @@ fn rows(full: bool) -> Vec<Row> {
             |t, (timer, now)| unsafe { vig_timers_is_expired(t, timer, now) },
             |t, (timer, now)| unsafe { val_timers_is_expired(*t, timer, now) },
             |t, (timer, now)| t.is_expired(timer, now),
+        ),
+        row(
+            full,
+            "clear",
+            |_, _| true,
+            |t, _| unsafe { vig_timers_clear(t) },
+            |t, _| unsafe { val_timers_clear(*t) },
+            |t, _| *t = Rust::default(),
         ),
     ]
 }

@@ -30,6 +30,7 @@ fn ways(area: Area, name: &str) -> Vec<&'static str> {
         (Area::Timers, "get") => &["timer-above-8 set not-set"],
         (Area::Timers, "next_timeout") => &["none one least-of-several equal-least"],
         (Area::Timers, "is_expired") => &["timer-above-8 moment-too-far not-set deadline-before-now deadline-at-now deadline-after-now"],
+        (Area::Timers, "clear") => &["some-set none-set"],
 
         (Area::Ids, "fresh") => &["limit-0 limit-too-large", ID, TOKEN, "zero-length with-token without-token"],
         (Area::Ids, "set_initial_dcid") => &[ID, TOKEN, NUMBER, STATE, "zero-length first replaces-one replaces-several"],

@@ -156,6 +156,7 @@ impl Generator {
         let calls = area_calls(Area::Timers);
         let weights = calls.clone().map(|call| match call.name {
             "fresh" => 1,
+            "clear" => 2,
             "set" => 30,
             "stop" => 25,
             _ => 20,

@@ -90,6 +90,7 @@ pub const CALLS: &[Call] = &[
     call(0x13, Timers, "get", &[Timer(0)], "fn"),
     call(0x14, Timers, "next_timeout", &[], "fn"),
     call(0x15, Timers, "is_expired", &[Timer(0), Moment("now", 1)], "f"),
+    call(0x16, Timers, "clear", &[], ""),
     call(0x20, Ids, "fresh", &[DestinationLimit(0), Id, Number("path", 1), MaybeToken], ""),
     call(0x21, Ids, "set_initial_dcid", &[Id, MaybeToken, Maybe("path", 0)], ""),
     call(0x22, Ids, "set_scid_limit", &[Number("limit", 0)], ""),

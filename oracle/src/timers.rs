@@ -23,6 +23,10 @@ pub fn answer(table: &mut Timers, call: &Call, record: &Record, tally: &mut Tall
         "next_timeout" => next_way(table),
         "is_expired" => expired_way(table, n[0], n[1]),
         "fresh" => "accepted",
+        "clear" => match (0..9).any(|k| table.get(timer(k)).is_some()) {
+            true => "some-set",
+            false => "none-set",
+        },
         name => match (name, table.get(timer(n[0])).is_some()) {
             ("set", true) => "set-again",
             ("stop", true) => "was-set",
@@ -34,7 +38,8 @@ pub fn answer(table: &mut Timers, call: &Call, record: &Record, tally: &mut Tall
     tally.hit(call.number, way);
 
     let fields = match call.name {
-        "fresh" => {
+        // The Rust has no clear: what it must give is the table of a new connection.
+        "fresh" | "clear" => {
             *table = Timers::default();
             vec![]
         }

@@ -275,6 +275,7 @@ unsafe extern "C" {
     pub safe fn vig_timers_stop(t: &mut TimerTable, timer: u64) -> Done;
     pub safe fn vig_timers_next_timeout(t: &TimerTable) -> Timed;
     pub safe fn vig_timers_is_expired(t: &TimerTable, timer: u64, moment: Moment) -> Flagged;
+    pub safe fn vig_timers_clear(t: &mut TimerTable) -> Done;
 
     pub safe fn vig_ids_fresh(dlimit: u64, cid: ConnectionId, path: u64, token: Token) -> IdsDoneOut;
     pub safe fn vig_ids_set_initial_dcid(t: &mut Ids, cid: ConnectionId, token: Token, has: bool, path: u64) -> Done;

@@ -91,6 +91,11 @@ impl Timers {
     pub fn is_expired(&self, timer: Timer, now: Moment) -> Result<bool, Refusal> {
         ffi::vig_timers_is_expired(&self.0, timer as u64, now.0).result()
     }
+
+    /// Every timer is stopped, as a connection does that is closed.
+    pub fn clear(&mut self) -> Result<(), Refusal> {
+        ffi::vig_timers_clear(&mut self.0).result()
+    }
 }
 
 impl Default for Timers {
@@ -136,6 +141,22 @@ mod tests {
         timers.set(Timer::Idle, Moment::MAX).unwrap();
         let before = timers.clone();
         assert_eq!(timers.set(Timer::Idle, Moment::from_micros(1 << 63)), Err(Refusal::Malformed));
+        assert_eq!(timers, before);
+    }
+
+    #[test]
+    fn cleared_is_fresh() {
+        let mut timers = Timers::fresh();
+        for timer in Timer::ALL {
+            timers.set(timer, Moment::MAX).unwrap();
+        }
+        timers.clear().unwrap();
+        assert_eq!(timers, Timers::fresh());
+
+        // A table out of its form is refused and left, as by every call.
+        timers.0.expires[0].at.us = 1;
+        let before = timers.clone();
+        assert_eq!(timers.clear(), Err(Refusal::Malformed));
         assert_eq!(timers, before);
     }
 }

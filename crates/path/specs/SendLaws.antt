@@ -10,6 +10,7 @@ use lib.Dec.{leb, ltb}
 use lib.ListN.{length, length-map}
 use borrow.Author.Tests.{lt-ltb, le-ltb, le-leb, lt-leb, ltb-false, leb-false}
 use Rattle.values.specs.Limits.{initialChalTimeout, maxShift, maxMoment, maxPathChalsSent}
+use Rattle.values.specs.declared.time.Moment.{Moment}
 use Rattle.challenges.specs.Challenges.{standing, sentOf}
 use Rattle.challenges.specs.Laws.{standing-long}
 use Rattle.challenges.specs.declared.sent.Sent.{Sent}
@@ -35,8 +36,8 @@ none-at false false true e = absurd (omega (arith, e))
 none-at false true c e = absurd (omega (arith, e))
 none-at true b c e = absurd (omega (arith, e))
 
-abbrev pub stamped : ℕ → ℕ → ℕ → ℕ → CS.Challenge
-stamped d size now wait = record { «data» = d; size = size; sent = record { us = now }; deadline = record { us = now + wait } }
+abbrev pub stamped : ℕ → ℕ → ℕ → Moment → CS.Challenge
+stamped d size now due = record { «data» = d; size = size; sent = record { us = now }; deadline = due }
 
 -- the shift loses no bits
 pub shifted : (lost : ℕ) → lost ≤ maxShift → initialChalTimeout * 2 ^ lost % 18446744073709551616 ≡ initialChalTimeout * 2 ^ lost
@@ -88,10 +89,10 @@ module _ (x : S.Path) (w : pathFormed x ≡ true) where
       pub send-room : x .«sent_chals» .count < maxPathChalsSent
       send-room = omega (arith, sent-count, leb-false maxPathChalsSent (length (pathView x .sent)) (none-at lostTest timeTest fullTest e .2))
 
-    -- it goes to the end; `wait` is the span up to its deadline
-    pub send-is : (d size r wait : ℕ) (s : Sent) → wait ≡ initialChalTimeout * 2 ^ x .«lost_chal» → s ≡ sentOf (standing (x .«sent_chals») ++ (stamped d size now wait ∷ [])) → r ≡ max (x .state) 2
+    -- it goes to the end; `due` is its deadline
+    pub send-is : (d size r : ℕ) (due : Moment) (s : Sent) → due ≡ record { us = lossTime now (x .«lost_chal») } → s ≡ sentOf (standing (x .«sent_chals») ++ (stamped d size now due ∷ [])) → r ≡ max (x .state) 2
         → putSent s r x ≡ pathOf (send d size now (pathView x))
-    send-is d size r wait s g e f =
+    send-is d size r due s g e f =
         let y = challenge d size now (x .«lost_chal») in
         let l = standing (x .«sent_chals») in
-        λ i. putSent ((e ∙ ap (λ (n : ℕ). sentOf (l ++ (stamped d size now n ∷ []))) g ∙ sym (ap sentOf (snoc-back y l))) i) (f i) (back x w i)
+        λ i. putSent ((e ∙ ap (λ (m : Moment). sentOf (l ++ (stamped d size now m ∷ []))) g ∙ sym (ap sentOf (snoc-back y l))) i) (f i) (back x w i)

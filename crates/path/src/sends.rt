@@ -4,6 +4,7 @@ ghost use mathlib.Core.Bool.{cond, true};
 ghost use Prim.Native.Nat.{_*_, _^_, _≤_, max};
 ghost use lib.Dec.{eqb};
 ghost use Rattle.values.specs.Limits.{initialChalTimeout, maxShift};
+ghost use Rattle.values.specs.Time.{movedOf, plus};
 ghost use Rattle.paths_state.specs.Formed.{pathFormed};
 ghost use Rattle.paths_rules.specs.Path.{send};
 ghost use Rattle.path.specs.Reading.{pathOf, pathView};
@@ -12,8 +13,9 @@ use crate::ranks::VALIDATING;
 use challenges::Challenge;
 use paths_state::Path;
 use values::Moment;
+use values::Moved;
+use values::Span;
 use values::limits::INITIAL_CHAL_TIMEOUT;
-use values::limits::MAX_MOMENT;
 use values::limits::MAX_PATH_CHALS_SENT;
 use values::limits::MAX_SHIFT;
 use values::refusals::FAR_DEADLINE;
@@ -27,11 +29,22 @@ pub fn raised(rank: u8, to: u8) -> u8
 }
 
 // 25 ms, doubled for each challenge lost.
-fn back_off(lost: u64) -> u64
+fn back_off(lost: u64) -> Span
     requires { ⌜ lost ≤ maxShift ⌝ }
-    ensures { λ r. ⌜ r ≡ initialChalTimeout * 2 ^ lost ⌝ }
+    ensures { λ r. ⌜ r ≡ record { us = initialChalTimeout * 2 ^ lost } ⌝ }
 {
-    INITIAL_CHAL_TIMEOUT << lost
+    Span {
+        us: INITIAL_CHAL_TIMEOUT << lost,
+    }
+}
+
+// When a challenge sent now counts as lost.
+fn loss_time(now: Moment, lost: u64) -> Moved
+    requires { ⌜ lost ≤ maxShift ⌝ }
+    ensures { λ r. ⌜ r ≡ movedOf (plus (now .us) (initialChalTimeout * 2 ^ lost)) ⌝ }
+{
+    let wait = back_off(lost);
+    values::moment_plus(now, wait)
 }
 
 // The refusal so far, n, stands; of 0 comes 8: no deadline; 6: sixteen challenges stand; 0 otherwise.
@@ -46,13 +59,10 @@ pub fn send_refusal(x: Path, n: u8, now: Moment) -> u8
     if MAX_SHIFT < lost {
         return FAR_DEADLINE;
     }
-    if MAX_MOMENT < now.us {
+    let due = loss_time(now, lost);
+    let Moved::To(deadline) = due else {
         return FAR_DEADLINE;
-    }
-    let wait = back_off(lost);
-    if MAX_MOMENT - now.us < wait {
-        return FAR_DEADLINE;
-    }
+    };
     if MAX_PATH_CHALS_SENT <= x.sent_chals.count {
         return NO_SLOT;
     }
@@ -68,12 +78,15 @@ pub fn sent(x: Path, ok: bool, data: u64, size: u64, now: Moment) -> Path
         return x;
     }
     let lost = x.lost_chal;
-    let wait = back_off(lost);
+    let due = loss_time(now, lost);
+    let Moved::To(deadline) = due else {
+        return x;
+    };
     let c = Challenge {
         data: data,
         size: size,
         sent: now,
-        deadline: Moment { us: now.us + wait },
+        deadline: deadline,
     };
     let s = x.sent_chals;
     let p = challenges::sent_push(s, c);

@@ -23,7 +23,8 @@ fn front_late(x: Path, now: Moment) -> bool
 {
     let s = x.sent_chals;
     let d = challenges::sent_front(s);
-    d.set & (d.at.us <= now.us)
+    let passed = values::moment_not_after(d.at, now);
+    d.set & passed
 }
 
 // The front one goes. Below 8 another challenge is asked for; otherwise the path fails, and no challenge stands.

@@ -81,7 +81,8 @@ pub fn first_unused(t: Paths) -> Numbered
 fn earlier(a: Deadline, b: Deadline) -> Deadline
     ensures { λ r. ⌜ r ≡ earlierOf a b ⌝ }
 {
-    let stays = !b.set | (a.set & (a.at.us <= b.at.us));
+    let first = values::moment_not_after(a.at, b.at);
+    let stays = !b.set | (a.set & first);
     if stays { a } else { b }
 }
 

@@ -46,7 +46,7 @@ fn sent_formed(s: Sent) -> bool
     let mut i: usize = 0;
     while i < 16 {
         let x = s.items[i];
-        let m = x.sent.us | x.deadline.us;
+        let m = values::moment_bits(x.sent, x.deadline);
         let w = x.data | x.size | m;
         let v = past_count(i, count, w);
         tail = tail | v;

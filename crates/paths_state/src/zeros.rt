@@ -26,7 +26,7 @@ pub fn zero_challenges(a: [Challenge; 16]) -> bool
     let mut i: usize = 0;
     while i < 16 {
         let x = a[i];
-        let m = x.sent.us | x.deadline.us;
+        let m = values::moment_bits(x.sent, x.deadline);
         let w = x.data | x.size | m;
         acc = acc | w;
         i += 1;

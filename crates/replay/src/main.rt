@@ -68,7 +68,7 @@ fn answer(s: States, r: Record, out: &mut [u8]) -> States {
     if (call == 0x08) | (call == 0x09) {
         return answered(s, values_calls::line(r, out, at));
     }
-    if (0x10 <= call) & (call <= 0x15) {
+    if (0x10 <= call) & (call <= 0x16) {
         let t = s.timers;
         let l = timers_calls::line(t, r, out, at);
         let v = l.timers;

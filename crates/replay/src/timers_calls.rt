@@ -1,4 +1,4 @@
-// The calls 10 to 15. Those that are lent in place too are made both ways: a line says so where the two forms differ, and no answer line looks like it.
+// The calls 10 to 16. Those that are lent in place too are made both ways: a line says so where the two forms differ, and no answer line looks like it.
 use crate::answers;
 use crate::digest;
 use crate::record::Record;
@@ -40,7 +40,7 @@ fn agreed(o: TimersOut, lent: TimersOut, call: u8, out: &mut [u8], at: usize) ->
 fn same_time(a: Timed, b: Timed) -> bool {
     let d = a.deadline;
     let e = b.deadline;
-    (a.refusal == b.refusal) & (d.set == e.set) & (d.at.us == e.at.us)
+    (a.refusal == b.refusal) & (d.set == e.set) & values::moment_eq(d.at, e.at)
 }
 
 fn timed(t: TimerTable, a: Timed, call: u8, out: &mut [u8], at: usize) -> TimersLine {
@@ -82,6 +82,11 @@ pub fn line(t: TimerTable, r: Record, out: &mut [u8], at: usize) -> TimersLine {
         }
         let p = text::put_text(out, at, b"the lent form differs\n");
         return TimersLine { timers: t, at: p };
+    }
+    if call == 0x16 {
+        let o = timers::clear(t);
+        let u = o.timers;
+        return changed(u, o.answer.refusal, call, out, at);
     }
     let a = timers::is_expired(t, r.n0, m);
     let p = answers::flagged(a, call, out, at);

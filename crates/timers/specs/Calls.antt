@@ -45,3 +45,7 @@ nextTimeoutCall t = cond (wellFormed t) (timedAt 0 (nextTimeout (view t))) (time
 
 abbrev pub isExpiredCall : TimerTable → ℕ → Moment → Flagged
 isExpiredCall t timer now = cond (wellFormed t && isTimer timer && momentFormed (now .us)) (flaggedAt 0 (expired timer (now .us) (view t))) (flaggedAt 1 false)
+
+-- no timer is set any more
+abbrev pub clearCall : TimerTable → TimersOut
+clearCall t = cond (wellFormed t) (outAt 0 (timersOf freshTimers)) (outAt 1 t)

@@ -1,3 +1,5 @@
 pub mod Timers
 pub mod Calls
 pub mod Laws
+pub mod Runs
+pub mod RunsProof

@@ -1,6 +1,7 @@
-// The published calls, in the order of the Rust's TimerTable. Each tests the table and its arguments first: what is not of its form is refused with 1.
+// The published calls, in the order of the Rust's TimerTable, and `clear`. Each tests the table and its arguments first: what is not of its form is refused
+// with 1.
 ghost use mathlib.Core.Path.{_≡_};
-ghost use Rattle.timers.specs.Calls.{freshCall, getCall, isExpiredCall, nextTimeoutCall, setCall, stopCall, timedAt};
+ghost use Rattle.timers.specs.Calls.{clearCall, freshCall, getCall, isExpiredCall, nextTimeoutCall, setCall, stopCall, timedAt};
 ghost use mathlib.Core.Option.{none};
 use crate::formed;
 use crate::steps;
@@ -121,5 +122,22 @@ pub fn is_expired(t: TimerTable, timer: u64, now: Moment) -> Flagged
     Flagged {
         refusal: 1,
         flag: false,
+    }
+}
+
+// Every timer is stopped: the table is as a fresh one. Not in the Rust, whose table is dropped with its connection; for a table that is lent in place.
+pub fn clear(t: TimerTable) -> TimersOut
+    ensures { λ r. ⌜ r ≡ clearCall t ⌝ }
+{
+    if formed::formed(t) {
+        let u = fresh();
+        return TimersOut {
+            timers: u,
+            answer: Done { refusal: 0 },
+        };
+    }
+    TimersOut {
+        timers: t,
+        answer: Done { refusal: 1 },
     }
 }

@@ -4,6 +4,7 @@ mod formed;
 mod steps;
 mod table;
 
+pub use calls::clear;
 pub use calls::fresh;
 pub use calls::get;
 pub use calls::is_expired;

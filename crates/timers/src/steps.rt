@@ -45,7 +45,8 @@ pub fn get_step(t: TimerTable, timer: u64) -> Deadline
 fn sooner(best: Deadline, d: Deadline) -> Deadline
     ensures { λ r. ⌜ r ≡ soonerOf best d ⌝ }
 {
-    let take = d.set & (!best.set | (d.at.us < best.at.us));
+    let first = values::moment_before(d.at, best.at);
+    let take = d.set & (!best.set | first);
     if take { d } else { best }
 }
 
@@ -71,5 +72,6 @@ pub fn expired_step(t: TimerTable, timer: u64, now: Moment) -> bool
     ensures { λ r. ⌜ r ≡ expired timer (now .us) (view t) ⌝ }
 {
     let d = get_step(t, timer);
-    d.set & (d.at.us <= now.us)
+    let passed = values::moment_not_after(d.at, now);
+    d.set & passed
 }

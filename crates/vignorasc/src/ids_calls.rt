@@ -1,12 +1,9 @@
 // The published calls of the ids, over a state that the host lends: the answer is the call's answer, and the state is left as the call leaves it. A call
 // stores the fields that it may change, add_dcid the whole state.
 ghost use mathlib.Core.Path.{_≡_};
-ghost use mathlib.Core.Bool.{true, _&&_};
-ghost use Rattle.lists.specs.Defs.{given};
-ghost use Rattle.values.specs.Cid.{idFormed};
-ghost use Rattle.values.specs.Token.{tokenFormed, tokenView};
+ghost use Rattle.ids.specs.Runs as R;
+ghost use Rattle.ids.specs.Reading.{freshIds};
 ghost use Rattle.ids_rules.specs.Calls as C;
-ghost use Rattle.ids.specs.Reading.{countedCall, doneCall, flaggedCall, foundCall, frameCall, freedCall, freshIds, issuedCall, itemCall, numberedCall, pathFormed, retiredCall};
 use ids::DoneOut;
 use ids::FoundAnswer;
 use ids::FrameAnswer;
@@ -38,7 +35,7 @@ pub extern "C" fn vig_ids_set_initial_dcid(
     has: bool,
     path: u64,
 ) -> Done
-    ensures { λ r. ⌜ (r ≡ (doneCall (now (t .entry)) (idFormed cid && tokenFormed token && pathFormed has path) (C.SetInitialDcid cid (tokenView token) (given has path))) .answer) × (now (t .exit) ≡ (doneCall (now (t .entry)) (idFormed cid && tokenFormed token && pathFormed has path) (C.SetInitialDcid cid (tokenView token) (given has path))) .ids) ⌝ }
+    ensures { λ r. ⌜ R.Done (record { ids = now (t .exit); answer = r }) ≡ R.result (now (t .entry)) (R.SetInitialDcid cid token has path) ⌝ }
 {
     let a = ids::set_initial_dcid_at(*t, cid, token, has, path);
     t.destination = a.destination;
@@ -49,7 +46,7 @@ pub extern "C" fn vig_ids_set_initial_dcid(
 // The most source IDs that the peer allows, clamped to 2..16.
 #[no_mangle]
 pub extern "C" fn vig_ids_set_scid_limit(t: &mut Ids, n: u64) -> Done
-    ensures { λ r. ⌜ (r ≡ (doneCall (now (t .entry)) true (C.SetScidLimit n)) .answer) × (now (t .exit) ≡ (doneCall (now (t .entry)) true (C.SetScidLimit n)) .ids) ⌝ }
+    ensures { λ r. ⌜ R.Done (record { ids = now (t .exit); answer = r }) ≡ R.result (now (t .entry)) (R.SetScidLimit n) ⌝ }
 {
     let a = ids::set_scid_limit_at(*t, n);
     t.slimit = a.slimit;
@@ -60,7 +57,7 @@ pub extern "C" fn vig_ids_set_scid_limit(t: &mut Ids, n: u64) -> Done
 // The source item with the sequence.
 #[no_mangle]
 pub extern "C" fn vig_ids_get_scid(t: &Ids, seq: u64) -> ItemAnswer
-    ensures { λ r. ⌜ r ≡ itemCall (now (t .entry)) (C.GetScid seq) ⌝ }
+    ensures { λ r. ⌜ R.AnItem r ≡ R.result (now (t .entry)) (R.Reads (C.GetScid seq)) ⌝ }
 {
     ids::get_scid(*t, seq)
 }
@@ -68,7 +65,7 @@ pub extern "C" fn vig_ids_get_scid(t: &Ids, seq: u64) -> ItemAnswer
 // The destination item with the sequence.
 #[no_mangle]
 pub extern "C" fn vig_ids_get_dcid(t: &Ids, seq: u64) -> ItemAnswer
-    ensures { λ r. ⌜ r ≡ itemCall (now (t .entry)) (C.GetDcid seq) ⌝ }
+    ensures { λ r. ⌜ R.AnItem r ≡ R.result (now (t .entry)) (R.Reads (C.GetDcid seq)) ⌝ }
 {
     ids::get_dcid(*t, seq)
 }
@@ -76,7 +73,7 @@ pub extern "C" fn vig_ids_get_dcid(t: &Ids, seq: u64) -> ItemAnswer
 // The sequence and the path of the first source item with the ID.
 #[no_mangle]
 pub extern "C" fn vig_ids_find_scid(t: &Ids, cid: ConnectionId) -> FoundAnswer
-    ensures { λ r. ⌜ r ≡ foundCall (now (t .entry)) (idFormed cid) (C.FindScid cid) ⌝ }
+    ensures { λ r. ⌜ R.AFound r ≡ R.result (now (t .entry)) (R.Reads (C.FindScid cid)) ⌝ }
 {
     ids::find_scid(*t, cid)
 }
@@ -84,7 +81,7 @@ pub extern "C" fn vig_ids_find_scid(t: &Ids, cid: ConnectionId) -> FoundAnswer
 // The source item is used by the path.
 #[no_mangle]
 pub extern "C" fn vig_ids_mark_scid_used(t: &mut Ids, seq: u64, path: u64) -> Done
-    ensures { λ r. ⌜ (r ≡ (doneCall (now (t .entry)) true (C.MarkScidUsed seq path)) .answer) × (now (t .exit) ≡ (doneCall (now (t .entry)) true (C.MarkScidUsed seq path)) .ids) ⌝ }
+    ensures { λ r. ⌜ R.Done (record { ids = now (t .exit); answer = r }) ≡ R.result (now (t .entry)) (R.MarkScidUsed seq path) ⌝ }
 {
     let a = ids::mark_scid_used_at(*t, seq, path);
     t.source = a.table;
@@ -94,7 +91,7 @@ pub extern "C" fn vig_ids_mark_scid_used(t: &mut Ids, seq: u64, path: u64) -> Do
 // The destination item is used by the path.
 #[no_mangle]
 pub extern "C" fn vig_ids_mark_dcid_used(t: &mut Ids, seq: u64, path: u64) -> Done
-    ensures { λ r. ⌜ (r ≡ (doneCall (now (t .entry)) true (C.MarkDcidUsed seq path)) .answer) × (now (t .exit) ≡ (doneCall (now (t .entry)) true (C.MarkDcidUsed seq path)) .ids) ⌝ }
+    ensures { λ r. ⌜ R.Done (record { ids = now (t .exit); answer = r }) ≡ R.result (now (t .entry)) (R.MarkDcidUsed seq path) ⌝ }
 {
     let a = ids::mark_dcid_used_at(*t, seq, path);
     t.destination = a.table;
@@ -104,7 +101,7 @@ pub extern "C" fn vig_ids_mark_dcid_used(t: &mut Ids, seq: u64, path: u64) -> Do
 // How many source IDs no path uses.
 #[no_mangle]
 pub extern "C" fn vig_ids_unused_scids(t: &Ids) -> Counted
-    ensures { λ r. ⌜ r ≡ countedCall (now (t .entry)) C.UnusedScids ⌝ }
+    ensures { λ r. ⌜ R.ACount r ≡ R.result (now (t .entry)) (R.Reads C.UnusedScids) ⌝ }
 {
     ids::unused_scids(*t)
 }
@@ -112,7 +109,7 @@ pub extern "C" fn vig_ids_unused_scids(t: &Ids) -> Counted
 // How many destination IDs no path uses: none where they have zero length.
 #[no_mangle]
 pub extern "C" fn vig_ids_unused_dcids(t: &Ids) -> Counted
-    ensures { λ r. ⌜ r ≡ countedCall (now (t .entry)) C.UnusedDcids ⌝ }
+    ensures { λ r. ⌜ R.ACount r ≡ R.result (now (t .entry)) (R.Reads C.UnusedDcids) ⌝ }
 {
     ids::unused_dcids(*t)
 }
@@ -120,7 +117,7 @@ pub extern "C" fn vig_ids_unused_dcids(t: &Ids) -> Counted
 // The lowest destination sequence that no path uses.
 #[no_mangle]
 pub extern "C" fn vig_ids_lowest_unused_dcid_seq(t: &Ids) -> Numbered
-    ensures { λ r. ⌜ r ≡ numberedCall (now (t .entry)) C.LowestUnusedDcidSeq ⌝ }
+    ensures { λ r. ⌜ R.ANumber r ≡ R.result (now (t .entry)) (R.Reads C.LowestUnusedDcidSeq) ⌝ }
 {
     ids::lowest_unused_dcid_seq(*t)
 }
@@ -136,7 +133,7 @@ pub extern "C" fn vig_ids_add_scid(
     path: u64,
     leave: bool,
 ) -> Counted
-    ensures { λ r. ⌜ (r ≡ (issuedCall (now (t .entry)) (idFormed cid && tokenFormed token && pathFormed has path) (C.AddScid cid (tokenView token) advertise (given has path) leave)) .answer) × (now (t .exit) ≡ (issuedCall (now (t .entry)) (idFormed cid && tokenFormed token && pathFormed has path) (C.AddScid cid (tokenView token) advertise (given has path) leave)) .ids) ⌝ }
+    ensures { λ r. ⌜ R.Issued (record { ids = now (t .exit); answer = r }) ≡ R.result (now (t .entry)) (R.AddScid cid token advertise has path leave) ⌝ }
 {
     let a = ids::add_scid_at(*t, cid, token, advertise, has, path, leave);
     t.source = a.source;
@@ -155,7 +152,7 @@ pub extern "C" fn vig_ids_add_dcid(
     token: ResetToken,
     retire_prior_to: u64,
 ) -> RetiredAnswer
-    ensures { λ r. ⌜ (r ≡ (retiredCall (now (t .entry)) (idFormed cid) (C.AddDcid cid seq (token .bytes) «retire_prior_to»)) .answer) × (now (t .exit) ≡ (retiredCall (now (t .entry)) (idFormed cid) (C.AddDcid cid seq (token .bytes) «retire_prior_to»)) .ids) ⌝ }
+    ensures { λ r. ⌜ R.Retired (record { ids = now (t .exit); answer = r }) ≡ R.result (now (t .entry)) (R.AddDcid cid seq token «retire_prior_to») ⌝ }
 {
     let a = ids::add_dcid(*t, cid, seq, token, retire_prior_to);
     *t = a.ids;
@@ -165,7 +162,7 @@ pub extern "C" fn vig_ids_add_dcid(
 // A RETIRE_CONNECTION_ID frame: the answer is the path that used the ID.
 #[no_mangle]
 pub extern "C" fn vig_ids_retire_scid(t: &mut Ids, seq: u64, packet: ConnectionId) -> Numbered
-    ensures { λ r. ⌜ (r ≡ (freedCall (now (t .entry)) (idFormed packet) (C.RetireScid seq packet)) .answer) × (now (t .exit) ≡ (freedCall (now (t .entry)) (idFormed packet) (C.RetireScid seq packet)) .ids) ⌝ }
+    ensures { λ r. ⌜ R.Freed (record { ids = now (t .exit); answer = r }) ≡ R.result (now (t .entry)) (R.RetireScid seq packet) ⌝ }
 {
     let a = ids::retire_scid_at(*t, seq, packet);
     t.source = a.source;
@@ -176,7 +173,7 @@ pub extern "C" fn vig_ids_retire_scid(t: &mut Ids, seq: u64, packet: ConnectionI
 // The source sequence is to be announced, or no longer.
 #[no_mangle]
 pub extern "C" fn vig_ids_mark_scid_to_advertise(t: &mut Ids, seq: u64, on: bool) -> Done
-    ensures { λ r. ⌜ (r ≡ (doneCall (now (t .entry)) true (C.MarkScidToAdvertise seq on)) .answer) × (now (t .exit) ≡ (doneCall (now (t .entry)) true (C.MarkScidToAdvertise seq on)) .ids) ⌝ }
+    ensures { λ r. ⌜ R.Done (record { ids = now (t .exit); answer = r }) ≡ R.result (now (t .entry)) (R.MarkScidToAdvertise seq on) ⌝ }
 {
     let a = ids::mark_scid_to_advertise_at(*t, seq, on);
     t.advertise = a.queue;
@@ -186,7 +183,7 @@ pub extern "C" fn vig_ids_mark_scid_to_advertise(t: &mut Ids, seq: u64, on: bool
 // The destination sequence is to be retired, or no longer.
 #[no_mangle]
 pub extern "C" fn vig_ids_mark_dcid_to_retire(t: &mut Ids, seq: u64, on: bool) -> Done
-    ensures { λ r. ⌜ (r ≡ (doneCall (now (t .entry)) true (C.MarkDcidToRetire seq on)) .answer) × (now (t .exit) ≡ (doneCall (now (t .entry)) true (C.MarkDcidToRetire seq on)) .ids) ⌝ }
+    ensures { λ r. ⌜ R.Done (record { ids = now (t .exit); answer = r }) ≡ R.result (now (t .entry)) (R.MarkDcidToRetire seq on) ⌝ }
 {
     let a = ids::mark_dcid_to_retire_at(*t, seq, on);
     t.retire = a.queue;
@@ -196,7 +193,7 @@ pub extern "C" fn vig_ids_mark_dcid_to_retire(t: &mut Ids, seq: u64, on: bool) -
 // The source sequence that is to be announced next.
 #[no_mangle]
 pub extern "C" fn vig_ids_next_scid_to_advertise(t: &Ids) -> Numbered
-    ensures { λ r. ⌜ r ≡ numberedCall (now (t .entry)) C.NextScidToAdvertise ⌝ }
+    ensures { λ r. ⌜ R.ANumber r ≡ R.result (now (t .entry)) (R.Reads C.NextScidToAdvertise) ⌝ }
 {
     ids::next_scid_to_advertise(*t)
 }
@@ -204,7 +201,7 @@ pub extern "C" fn vig_ids_next_scid_to_advertise(t: &Ids) -> Numbered
 // The destination sequence that is to be retired next.
 #[no_mangle]
 pub extern "C" fn vig_ids_next_dcid_to_retire(t: &Ids) -> Numbered
-    ensures { λ r. ⌜ r ≡ numberedCall (now (t .entry)) C.NextDcidToRetire ⌝ }
+    ensures { λ r. ⌜ R.ANumber r ≡ R.result (now (t .entry)) (R.Reads C.NextDcidToRetire) ⌝ }
 {
     ids::next_dcid_to_retire(*t)
 }
@@ -212,7 +209,7 @@ pub extern "C" fn vig_ids_next_dcid_to_retire(t: &Ids) -> Numbered
 // The frame that announces the source ID.
 #[no_mangle]
 pub extern "C" fn vig_ids_create_new_connection_id_frame(t: &Ids, seq: u64) -> FrameAnswer
-    ensures { λ r. ⌜ r ≡ frameCall (now (t .entry)) (C.CreateNewConnectionIdFrame seq) ⌝ }
+    ensures { λ r. ⌜ R.AFrame r ≡ R.result (now (t .entry)) (R.Reads (C.CreateNewConnectionIdFrame seq)) ⌝ }
 {
     ids::create_new_connection_id_frame(*t, seq)
 }
@@ -220,7 +217,7 @@ pub extern "C" fn vig_ids_create_new_connection_id_frame(t: &Ids, seq: u64) -> F
 // Whether one of the queues has an entry.
 #[no_mangle]
 pub extern "C" fn vig_ids_need_send_cid_control_frames(t: &Ids) -> Flagged
-    ensures { λ r. ⌜ r ≡ flaggedCall (now (t .entry)) C.NeedSendCidControlFrames ⌝ }
+    ensures { λ r. ⌜ R.AFlag r ≡ R.result (now (t .entry)) (R.Reads C.NeedSendCidControlFrames) ⌝ }
 {
     ids::need_send_cid_control_frames(*t)
 }
@@ -228,7 +225,7 @@ pub extern "C" fn vig_ids_need_send_cid_control_frames(t: &Ids) -> Flagged
 // Whether our first source ID was empty.
 #[no_mangle]
 pub extern "C" fn vig_ids_zero_length_scid(t: &Ids) -> Flagged
-    ensures { λ r. ⌜ r ≡ flaggedCall (now (t .entry)) C.ZeroLengthScid ⌝ }
+    ensures { λ r. ⌜ R.AFlag r ≡ R.result (now (t .entry)) (R.Reads C.ZeroLengthScid) ⌝ }
 {
     ids::zero_length_scid(*t)
 }
@@ -236,7 +233,7 @@ pub extern "C" fn vig_ids_zero_length_scid(t: &Ids) -> Flagged
 // Whether the first destination ID was empty.
 #[no_mangle]
 pub extern "C" fn vig_ids_zero_length_dcid(t: &Ids) -> Flagged
-    ensures { λ r. ⌜ r ≡ flaggedCall (now (t .entry)) C.ZeroLengthDcid ⌝ }
+    ensures { λ r. ⌜ R.AFlag r ≡ R.result (now (t .entry)) (R.Reads C.ZeroLengthDcid) ⌝ }
 {
     ids::zero_length_dcid(*t)
 }
@@ -244,28 +241,28 @@ pub extern "C" fn vig_ids_zero_length_dcid(t: &Ids) -> Flagged
 // In place of the Rust's iterators: the count of each table, and the item at a place.
 #[no_mangle]
 pub extern "C" fn vig_ids_scid_count(t: &Ids) -> Counted
-    ensures { λ r. ⌜ r ≡ countedCall (now (t .entry)) C.ScidCount ⌝ }
+    ensures { λ r. ⌜ R.ACount r ≡ R.result (now (t .entry)) (R.Reads C.ScidCount) ⌝ }
 {
     ids::scid_count(*t)
 }
 
 #[no_mangle]
 pub extern "C" fn vig_ids_scid_at(t: &Ids, place: u64) -> ItemAnswer
-    ensures { λ r. ⌜ r ≡ itemCall (now (t .entry)) (C.ScidAt place) ⌝ }
+    ensures { λ r. ⌜ R.AnItem r ≡ R.result (now (t .entry)) (R.Reads (C.ScidAt place)) ⌝ }
 {
     ids::scid_at(*t, place)
 }
 
 #[no_mangle]
 pub extern "C" fn vig_ids_dcid_count(t: &Ids) -> Counted
-    ensures { λ r. ⌜ r ≡ countedCall (now (t .entry)) C.DcidCount ⌝ }
+    ensures { λ r. ⌜ R.ACount r ≡ R.result (now (t .entry)) (R.Reads C.DcidCount) ⌝ }
 {
     ids::dcid_count(*t)
 }
 
 #[no_mangle]
 pub extern "C" fn vig_ids_dcid_at(t: &Ids, place: u64) -> ItemAnswer
-    ensures { λ r. ⌜ r ≡ itemCall (now (t .entry)) (C.DcidAt place) ⌝ }
+    ensures { λ r. ⌜ R.AnItem r ≡ R.result (now (t .entry)) (R.Reads (C.DcidAt place)) ⌝ }
 {
     ids::dcid_at(*t, place)
 }

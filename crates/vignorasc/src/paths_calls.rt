@@ -1,13 +1,6 @@
 // The published calls of the paths, over a state that the host lends: the answer is the call's answer, and the state is left as the call leaves it.
 ghost use mathlib.Core.Path.{_≡_};
-ghost use mathlib.Core.Bool.{true};
-ghost use Rattle.lists.specs.Defs.{given};
-ghost use Rattle.values.specs.Address.{pairFormed};
-ghost use Rattle.values.specs.Time.{momentFormed};
-ghost use Rattle.paths_state.specs.Formed.{seqFormed};
-ghost use Rattle.paths_rules.specs.Calls as C;
-ghost use Rattle.paths_rules.specs.Table as T;
-ghost use Rattle.paths.specs.Reading.{addressCall, countedCall, doneCall, doneOf, flaggedCall, foundCall, insertedCall, numberedCall, optionalPair, pathCall, poppedCall, respondedCall, timedCall};
+ghost use Rattle.paths.specs.Runs as R;
 use paths::AddressAnswer;
 use paths::DoneOut;
 use paths::FoundAnswer;
@@ -31,7 +24,7 @@ pub extern "C" fn vig_paths_fresh(
     factor: u64,
     server: bool,
 ) -> DoneOut
-    ensures { λ r. ⌜ r ≡ doneOf (T.freshCall pair «max_datagram_size» limit factor server) ⌝ }
+    ensures { λ r. ⌜ r ≡ R.freshPaths pair «max_datagram_size» limit factor server ⌝ }
 {
     paths::fresh(pair, max_datagram_size, limit, factor, server)
 }
@@ -43,7 +36,7 @@ pub extern "C" fn vig_paths_insert_path(
     pair: FourTuple,
     max_datagram_size: u64,
 ) -> Counted
-    ensures { λ r. ⌜ (r ≡ (insertedCall (now (t .entry)) (pairFormed pair) (C.Insert pair «max_datagram_size»)) .answer) × (now (t .exit) ≡ (insertedCall (now (t .entry)) (pairFormed pair) (C.Insert pair «max_datagram_size»)) .paths) ⌝ }
+    ensures { λ r. ⌜ R.Insertion (record { paths = now (t .exit); answer = r }) ≡ R.result (now (t .entry)) (R.InsertPath pair «max_datagram_size») ⌝ }
 {
     let a = paths::insert_path(*t, pair, max_datagram_size);
     *t = a.paths;
@@ -53,7 +46,7 @@ pub extern "C" fn vig_paths_insert_path(
 // How many paths there are.
 #[no_mangle]
 pub extern "C" fn vig_paths_len(t: &Paths) -> Counted
-    ensures { λ r. ⌜ r ≡ countedCall (now (t .entry)) true (C.Ask C.Len) ⌝ }
+    ensures { λ r. ⌜ R.ACount r ≡ R.result (now (t .entry)) R.Len ⌝ }
 {
     paths::len(*t)
 }
@@ -61,7 +54,7 @@ pub extern "C" fn vig_paths_len(t: &Paths) -> Counted
 // The path with the id.
 #[no_mangle]
 pub extern "C" fn vig_paths_get(t: &Paths, id: u64) -> PathAnswer
-    ensures { λ r. ⌜ r ≡ pathCall (now (t .entry)) true (C.On id (C.Look C.Get)) ⌝ }
+    ensures { λ r. ⌜ R.APath r ≡ R.result (now (t .entry)) (R.Get id) ⌝ }
 {
     paths::get(*t, id)
 }
@@ -69,7 +62,7 @@ pub extern "C" fn vig_paths_get(t: &Paths, id: u64) -> PathAnswer
 // The id of the path that is listed with the pair.
 #[no_mangle]
 pub extern "C" fn vig_paths_get_path_id(t: &Paths, pair: FourTuple) -> Numbered
-    ensures { λ r. ⌜ r ≡ numberedCall (now (t .entry)) (pairFormed pair) (C.Ask (C.IdOf pair)) ⌝ }
+    ensures { λ r. ⌜ R.ANumber r ≡ R.result (now (t .entry)) (R.GetPathId pair) ⌝ }
 {
     paths::get_path_id(*t, pair)
 }
@@ -77,21 +70,21 @@ pub extern "C" fn vig_paths_get_path_id(t: &Paths, pair: FourTuple) -> Numbered
 // The first path with the active flag.
 #[no_mangle]
 pub extern "C" fn vig_paths_get_active(t: &Paths) -> FoundAnswer
-    ensures { λ r. ⌜ r ≡ foundCall (now (t .entry)) true (C.Ask C.GetActive) ⌝ }
+    ensures { λ r. ⌜ R.AFound r ≡ R.result (now (t .entry)) R.GetActive ⌝ }
 {
     paths::get_active(*t)
 }
 
 #[no_mangle]
 pub extern "C" fn vig_paths_local_addr(t: &Paths, id: u64) -> AddressAnswer
-    ensures { λ r. ⌜ r ≡ addressCall (now (t .entry)) true (C.On id (C.Look C.LocalAddr)) ⌝ }
+    ensures { λ r. ⌜ R.AnAddress r ≡ R.result (now (t .entry)) (R.LocalAddr id) ⌝ }
 {
     paths::local_addr(*t, id)
 }
 
 #[no_mangle]
 pub extern "C" fn vig_paths_remote_addr(t: &Paths, id: u64) -> AddressAnswer
-    ensures { λ r. ⌜ r ≡ addressCall (now (t .entry)) true (C.On id (C.Look C.RemoteAddr)) ⌝ }
+    ensures { λ r. ⌜ R.AnAddress r ≡ R.result (now (t .entry)) (R.RemoteAddr id) ⌝ }
 {
     paths::remote_addr(*t, id)
 }
@@ -99,14 +92,14 @@ pub extern "C" fn vig_paths_remote_addr(t: &Paths, id: u64) -> AddressAnswer
 // The rank of the path's state.
 #[no_mangle]
 pub extern "C" fn vig_paths_state(t: &Paths, id: u64) -> Counted
-    ensures { λ r. ⌜ r ≡ countedCall (now (t .entry)) true (C.On id (C.Look C.State)) ⌝ }
+    ensures { λ r. ⌜ R.ACount r ≡ R.result (now (t .entry)) (R.State id) ⌝ }
 {
     paths::state(*t, id)
 }
 
 #[no_mangle]
 pub extern "C" fn vig_paths_validated(t: &Paths, id: u64) -> Flagged
-    ensures { λ r. ⌜ r ≡ flaggedCall (now (t .entry)) true (C.On id (C.Look C.Validated)) ⌝ }
+    ensures { λ r. ⌜ R.AFlag r ≡ R.result (now (t .entry)) (R.Validated id) ⌝ }
 {
     paths::validated(*t, id)
 }
@@ -114,7 +107,7 @@ pub extern "C" fn vig_paths_validated(t: &Paths, id: u64) -> Flagged
 // Whether the path has the active flag and a destination sequence.
 #[no_mangle]
 pub extern "C" fn vig_paths_active(t: &Paths, id: u64) -> Flagged
-    ensures { λ r. ⌜ r ≡ flaggedCall (now (t .entry)) true (C.On id (C.Look C.Active)) ⌝ }
+    ensures { λ r. ⌜ R.AFlag r ≡ R.result (now (t .entry)) (R.Active id) ⌝ }
 {
     paths::active(*t, id)
 }
@@ -122,7 +115,7 @@ pub extern "C" fn vig_paths_active(t: &Paths, id: u64) -> Flagged
 // Whether a challenge is asked for.
 #[no_mangle]
 pub extern "C" fn vig_paths_path_chal_initiated(t: &Paths, id: u64) -> Flagged
-    ensures { λ r. ⌜ r ≡ flaggedCall (now (t .entry)) true (C.On id (C.Look C.Initiated)) ⌝ }
+    ensures { λ r. ⌜ R.AFlag r ≡ R.result (now (t .entry)) (R.PathChalInitiated id) ⌝ }
 {
     paths::path_chal_initiated(*t, id)
 }
@@ -130,7 +123,7 @@ pub extern "C" fn vig_paths_path_chal_initiated(t: &Paths, id: u64) -> Flagged
 // Whether a challenge or a response is to be sent, and a server has the credit for it.
 #[no_mangle]
 pub extern "C" fn vig_paths_need_send_validation_frames(t: &Paths, id: u64) -> Flagged
-    ensures { λ r. ⌜ r ≡ flaggedCall (now (t .entry)) true (C.On id (C.Look C.NeedsFrames)) ⌝ }
+    ensures { λ r. ⌜ R.AFlag r ≡ R.result (now (t .entry)) (R.NeedSendValidationFrames id) ⌝ }
 {
     paths::need_send_validation_frames(*t, id)
 }
@@ -138,7 +131,7 @@ pub extern "C" fn vig_paths_need_send_validation_frames(t: &Paths, id: u64) -> F
 // Whether packets on the path are to be expanded. Of a refusal's zero path nothing is said.
 #[no_mangle]
 pub extern "C" fn vig_paths_need_expand_padding_frames(t: &Paths, id: u64) -> Flagged
-    ensures { λ r. ⌜ r ≡ flaggedCall (now (t .entry)) true (C.On id (C.Look C.NeedsPadding)) ⌝ }
+    ensures { λ r. ⌜ R.AFlag r ≡ R.result (now (t .entry)) (R.NeedExpandPaddingFrames id) ⌝ }
 {
     paths::need_expand_padding_frames(*t, id)
 }
@@ -146,7 +139,7 @@ pub extern "C" fn vig_paths_need_expand_padding_frames(t: &Paths, id: u64) -> Fl
 // A challenge is asked for.
 #[no_mangle]
 pub extern "C" fn vig_paths_initiate_path_chal(t: &mut Paths, id: u64) -> Done
-    ensures { λ r. ⌜ (r ≡ (doneCall (now (t .entry)) true (C.On id C.Initiate)) .answer) × (now (t .exit) ≡ (doneCall (now (t .entry)) true (C.On id C.Initiate)) .paths) ⌝ }
+    ensures { λ r. ⌜ R.Done (record { paths = now (t .exit); answer = r }) ≡ R.result (now (t .entry)) (R.InitiatePathChal id) ⌝ }
 {
     let a = paths::initiate_path_chal_at(*t, id);
     let i = a.place;
@@ -158,7 +151,7 @@ pub extern "C" fn vig_paths_initiate_path_chal(t: &mut Paths, id: u64) -> Done
 // The oldest challenge received is taken out: the answer is its data.
 #[no_mangle]
 pub extern "C" fn vig_paths_pop_recv_chal(t: &mut Paths, id: u64) -> Numbered
-    ensures { λ r. ⌜ (r ≡ (poppedCall (now (t .entry)) true (C.On id C.Pop)) .answer) × (now (t .exit) ≡ (poppedCall (now (t .entry)) true (C.On id C.Pop)) .paths) ⌝ }
+    ensures { λ r. ⌜ R.Popped (record { paths = now (t .exit); answer = r }) ≡ R.result (now (t .entry)) (R.PopRecvChal id) ⌝ }
 {
     let a = paths::pop_recv_chal_at(*t, id);
     let i = a.place;
@@ -170,7 +163,7 @@ pub extern "C" fn vig_paths_pop_recv_chal(t: &mut Paths, id: u64) -> Numbered
 // A PATH_CHALLENGE frame came.
 #[no_mangle]
 pub extern "C" fn vig_paths_on_path_chal_received(t: &mut Paths, id: u64, data: u64) -> Done
-    ensures { λ r. ⌜ (r ≡ (doneCall (now (t .entry)) true (C.On id (C.Receive «data»))) .answer) × (now (t .exit) ≡ (doneCall (now (t .entry)) true (C.On id (C.Receive «data»))) .paths) ⌝ }
+    ensures { λ r. ⌜ R.Done (record { paths = now (t .exit); answer = r }) ≡ R.result (now (t .entry)) (R.OnPathChalReceived id «data») ⌝ }
 {
     let a = paths::on_path_chal_received_at(*t, id, data);
     let i = a.place;
@@ -188,7 +181,7 @@ pub extern "C" fn vig_paths_on_path_chal_sent(
     size: u64,
     sent: Moment,
 ) -> Done
-    ensures { λ r. ⌜ (r ≡ (doneCall (now (t .entry)) (momentFormed (sent .us)) (C.On id (C.Send «data» size (sent .us)))) .answer) × (now (t .exit) ≡ (doneCall (now (t .entry)) (momentFormed (sent .us)) (C.On id (C.Send «data» size (sent .us)))) .paths) ⌝ }
+    ensures { λ r. ⌜ R.Done (record { paths = now (t .exit); answer = r }) ≡ R.result (now (t .entry)) (R.OnPathChalSent id «data» size sent) ⌝ }
 {
     let a = paths::on_path_chal_sent_at(*t, id, data, size, sent);
     let i = a.place;
@@ -205,7 +198,7 @@ pub extern "C" fn vig_paths_on_path_resp_received(
     data: u64,
     moment: Moment,
 ) -> RespondedAnswer
-    ensures { λ r. ⌜ (r ≡ (respondedCall (now (t .entry)) (momentFormed (moment .us)) (C.On id (C.Respond «data» (moment .us)))) .answer) × (now (t .exit) ≡ (respondedCall (now (t .entry)) (momentFormed (moment .us)) (C.On id (C.Respond «data» (moment .us)))) .paths) ⌝ }
+    ensures { λ r. ⌜ R.Response (record { paths = now (t .exit); answer = r }) ≡ R.result (now (t .entry)) (R.OnPathRespReceived id «data» moment) ⌝ }
 {
     let a = paths::on_path_resp_received_at(*t, id, data, moment);
     let i = a.place;
@@ -217,7 +210,7 @@ pub extern "C" fn vig_paths_on_path_resp_received(
 // Challenges that are due count as lost, on every path that is being validated.
 #[no_mangle]
 pub extern "C" fn vig_paths_on_path_chal_timeout(t: &mut Paths, moment: Moment) -> Done
-    ensures { λ r. ⌜ (r ≡ (doneCall (now (t .entry)) (momentFormed (moment .us)) (C.Timeout (moment .us))) .answer) × (now (t .exit) ≡ (doneCall (now (t .entry)) (momentFormed (moment .us)) (C.Timeout (moment .us))) .paths) ⌝ }
+    ensures { λ r. ⌜ R.Done (record { paths = now (t .exit); answer = r }) ≡ R.result (now (t .entry)) (R.OnPathChalTimeout moment) ⌝ }
 {
     let a = paths::on_path_chal_timeout(*t, moment);
     *t = a.paths;
@@ -227,7 +220,7 @@ pub extern "C" fn vig_paths_on_path_chal_timeout(t: &mut Paths, moment: Moment) 
 // The least front deadline.
 #[no_mangle]
 pub extern "C" fn vig_paths_min_path_chal_timer(t: &Paths) -> Timed
-    ensures { λ r. ⌜ r ≡ timedCall (now (t .entry)) true (C.Ask C.Timer) ⌝ }
+    ensures { λ r. ⌜ R.ATime r ≡ R.result (now (t .entry)) R.MinPathChalTimer ⌝ }
 {
     paths::min_path_chal_timer(*t)
 }
@@ -235,7 +228,7 @@ pub extern "C" fn vig_paths_min_path_chal_timer(t: &Paths) -> Timed
 // Bytes came: a server's credit on a path that is not verified rises by factor x length.
 #[no_mangle]
 pub extern "C" fn vig_paths_inc_anti_ampl_limit(t: &mut Paths, id: u64, length: u64) -> Done
-    ensures { λ r. ⌜ (r ≡ (doneCall (now (t .entry)) true (C.On id (C.Credit length))) .answer) × (now (t .exit) ≡ (doneCall (now (t .entry)) true (C.On id (C.Credit length))) .paths) ⌝ }
+    ensures { λ r. ⌜ R.Done (record { paths = now (t .exit); answer = r }) ≡ R.result (now (t .entry)) (R.IncAntiAmplLimit id length) ⌝ }
 {
     let a = paths::inc_anti_ampl_limit_at(*t, id, length);
     let i = a.place;
@@ -247,7 +240,7 @@ pub extern "C" fn vig_paths_inc_anti_ampl_limit(t: &mut Paths, id: u64, length: 
 // Bytes were sent: the credit falls by the length.
 #[no_mangle]
 pub extern "C" fn vig_paths_dec_anti_ampl_limit(t: &mut Paths, id: u64, length: u64) -> Done
-    ensures { λ r. ⌜ (r ≡ (doneCall (now (t .entry)) true (C.On id (C.Charge length))) .answer) × (now (t .exit) ≡ (doneCall (now (t .entry)) true (C.On id (C.Charge length))) .paths) ⌝ }
+    ensures { λ r. ⌜ R.Done (record { paths = now (t .exit); answer = r }) ≡ R.result (now (t .entry)) (R.DecAntiAmplLimit id length) ⌝ }
 {
     let a = paths::dec_anti_ampl_limit_at(*t, id, length);
     let i = a.place;
@@ -259,7 +252,7 @@ pub extern "C" fn vig_paths_dec_anti_ampl_limit(t: &mut Paths, id: u64, length: 
 // How much of the wish may be sent.
 #[no_mangle]
 pub extern "C" fn vig_paths_cmp_anti_ampl_limit(t: &Paths, id: u64, wish: u64) -> Counted
-    ensures { λ r. ⌜ r ≡ countedCall (now (t .entry)) true (C.On id (C.Look (C.Allowed wish))) ⌝ }
+    ensures { λ r. ⌜ R.ACount r ≡ R.result (now (t .entry)) (R.CmpAntiAmplLimit id wish) ⌝ }
 {
     paths::cmp_anti_ampl_limit(*t, id, wish)
 }
@@ -267,7 +260,7 @@ pub extern "C" fn vig_paths_cmp_anti_ampl_limit(t: &Paths, id: u64, wish: u64) -
 // A ping is asked for; an absent pair is zero.
 #[no_mangle]
 pub extern "C" fn vig_paths_mark_ping(t: &mut Paths, has: bool, pair: FourTuple) -> Done
-    ensures { λ r. ⌜ (r ≡ (doneCall (now (t .entry)) (optionalPair has pair) (C.Ping (given has pair))) .answer) × (now (t .exit) ≡ (doneCall (now (t .entry)) (optionalPair has pair) (C.Ping (given has pair))) .paths) ⌝ }
+    ensures { λ r. ⌜ R.Done (record { paths = now (t .exit); answer = r }) ≡ R.result (now (t .entry)) (R.MarkPing has pair) ⌝ }
 {
     let a = paths::mark_ping(*t, has, pair);
     *t = a.paths;
@@ -277,7 +270,7 @@ pub extern "C" fn vig_paths_mark_ping(t: &mut Paths, has: bool, pair: FourTuple)
 // Multipath is on from here.
 #[no_mangle]
 pub extern "C" fn vig_paths_enable_multipath(t: &mut Paths) -> Done
-    ensures { λ r. ⌜ (r ≡ (doneCall (now (t .entry)) true C.Multipath) .answer) × (now (t .exit) ≡ (doneCall (now (t .entry)) true C.Multipath) .paths) ⌝ }
+    ensures { λ r. ⌜ R.Done (record { paths = now (t .exit); answer = r }) ≡ R.result (now (t .entry)) R.EnableMultipath ⌝ }
 {
     let a = paths::enable_multipath(*t);
     *t = a.paths;
@@ -287,7 +280,7 @@ pub extern "C" fn vig_paths_enable_multipath(t: &mut Paths) -> Done
 // The source sequence that the path uses, or none: then it is 0.
 #[no_mangle]
 pub extern "C" fn vig_paths_set_scid_seq(t: &mut Paths, id: u64, has: bool, seq: u64) -> Done
-    ensures { λ r. ⌜ (r ≡ (doneCall (now (t .entry)) (seqFormed has seq) (C.On id (C.SetScid (given has seq)))) .answer) × (now (t .exit) ≡ (doneCall (now (t .entry)) (seqFormed has seq) (C.On id (C.SetScid (given has seq)))) .paths) ⌝ }
+    ensures { λ r. ⌜ R.Done (record { paths = now (t .exit); answer = r }) ≡ R.result (now (t .entry)) (R.SetScidSeq id has seq) ⌝ }
 {
     let a = paths::set_scid_seq_at(*t, id, has, seq);
     let i = a.place;
@@ -299,7 +292,7 @@ pub extern "C" fn vig_paths_set_scid_seq(t: &mut Paths, id: u64, has: bool, seq:
 // The destination sequence that the path uses, or none: then it is 0.
 #[no_mangle]
 pub extern "C" fn vig_paths_set_dcid_seq(t: &mut Paths, id: u64, has: bool, seq: u64) -> Done
-    ensures { λ r. ⌜ (r ≡ (doneCall (now (t .entry)) (seqFormed has seq) (C.On id (C.SetDcid (given has seq)))) .answer) × (now (t .exit) ≡ (doneCall (now (t .entry)) (seqFormed has seq) (C.On id (C.SetDcid (given has seq)))) .paths) ⌝ }
+    ensures { λ r. ⌜ R.Done (record { paths = now (t .exit); answer = r }) ≡ R.result (now (t .entry)) (R.SetDcidSeq id has seq) ⌝ }
 {
     let a = paths::set_dcid_seq_at(*t, id, has, seq);
     let i = a.place;
@@ -310,7 +303,7 @@ pub extern "C" fn vig_paths_set_dcid_seq(t: &mut Paths, id: u64, has: bool, seq:
 
 #[no_mangle]
 pub extern "C" fn vig_paths_set_active(t: &mut Paths, id: u64, on: bool) -> Done
-    ensures { λ r. ⌜ (r ≡ (doneCall (now (t .entry)) true (C.On id (C.SetActive on))) .answer) × (now (t .exit) ≡ (doneCall (now (t .entry)) true (C.On id (C.SetActive on))) .paths) ⌝ }
+    ensures { λ r. ⌜ R.Done (record { paths = now (t .exit); answer = r }) ≡ R.result (now (t .entry)) (R.SetActive id on) ⌝ }
 {
     let a = paths::set_active_at(*t, id, on);
     let i = a.place;
@@ -322,7 +315,7 @@ pub extern "C" fn vig_paths_set_active(t: &mut Paths, id: u64, on: bool) -> Done
 // The peer's address is verified.
 #[no_mangle]
 pub extern "C" fn vig_paths_mark_verified(t: &mut Paths, id: u64) -> Done
-    ensures { λ r. ⌜ (r ≡ (doneCall (now (t .entry)) true (C.On id C.Verify)) .answer) × (now (t .exit) ≡ (doneCall (now (t .entry)) true (C.On id C.Verify)) .paths) ⌝ }
+    ensures { λ r. ⌜ R.Done (record { paths = now (t .exit); answer = r }) ≡ R.result (now (t .entry)) (R.MarkVerified id) ⌝ }
 {
     let a = paths::mark_verified_at(*t, id);
     let i = a.place;

@@ -1,7 +1,7 @@
 // The published calls of the timers, over a state that the host lends: the answer is the call's answer, and the state is left as the call leaves it.
 ghost use mathlib.Core.Path.{_≡_};
-ghost use Rattle.timers.specs.Calls.{freshCall, getCall, isExpiredCall, nextTimeoutCall, setCall, stopCall, timedAt};
-ghost use mathlib.Core.Option.{none};
+ghost use Rattle.timers.specs.Runs as R;
+ghost use Rattle.timers.specs.Calls.{freshCall};
 use timers::TimerTable;
 use values::Done;
 use values::Flagged;
@@ -19,7 +19,7 @@ pub extern "C" fn vig_timers_fresh() -> TimerTable
 // Sets the timer's deadline.
 #[no_mangle]
 pub extern "C" fn vig_timers_set(t: &mut TimerTable, timer: u64, at: Moment) -> Done
-    ensures { λ r. ⌜ (r ≡ (setCall (now (t .entry)) timer at) .answer) × (now (t .exit) ≡ (setCall (now (t .entry)) timer at) .timers) ⌝ }
+    ensures { λ r. ⌜ R.Done (record { timers = now (t .exit); answer = r }) ≡ R.result (now (t .entry)) (R.Set timer at) ⌝ }
 {
     let a = timers::set(*t, timer, at);
     *t = a.timers;
@@ -29,7 +29,7 @@ pub extern "C" fn vig_timers_set(t: &mut TimerTable, timer: u64, at: Moment) -> 
 // The timer's deadline, if it is set.
 #[no_mangle]
 pub extern "C" fn vig_timers_get(t: &TimerTable, timer: u64) -> Timed
-    ensures { λ r. ⌜ r ≡ getCall (now (t .entry)) timer ⌝ }
+    ensures { λ r. ⌜ R.ATime r ≡ R.result (now (t .entry)) (R.Get timer) ⌝ }
 {
     timers::get(*t, timer)
 }
@@ -37,7 +37,7 @@ pub extern "C" fn vig_timers_get(t: &TimerTable, timer: u64) -> Timed
 // The timer isn't set any more.
 #[no_mangle]
 pub extern "C" fn vig_timers_stop(t: &mut TimerTable, timer: u64) -> Done
-    ensures { λ r. ⌜ (r ≡ (stopCall (now (t .entry)) timer) .answer) × (now (t .exit) ≡ (stopCall (now (t .entry)) timer) .timers) ⌝ }
+    ensures { λ r. ⌜ R.Done (record { timers = now (t .exit); answer = r }) ≡ R.result (now (t .entry)) (R.Stop timer) ⌝ }
 {
     let a = timers::stop(*t, timer);
     *t = a.timers;
@@ -47,7 +47,7 @@ pub extern "C" fn vig_timers_stop(t: &mut TimerTable, timer: u64) -> Done
 // The least deadline that is set.
 #[no_mangle]
 pub extern "C" fn vig_timers_next_timeout(t: &TimerTable) -> Timed
-    ensures { λ r. ⌜ r ≡ nextTimeoutCall (now (t .entry)) ⌝ }
+    ensures { λ r. ⌜ R.ATime r ≡ R.result (now (t .entry)) R.NextTimeout ⌝ }
 {
     timers::next_timeout(*t)
 }
@@ -55,7 +55,17 @@ pub extern "C" fn vig_timers_next_timeout(t: &TimerTable) -> Timed
 // Whether the timer is set, and its deadline is not after now.
 #[no_mangle]
 pub extern "C" fn vig_timers_is_expired(t: &TimerTable, timer: u64, moment: Moment) -> Flagged
-    ensures { λ r. ⌜ r ≡ isExpiredCall (now (t .entry)) timer moment ⌝ }
+    ensures { λ r. ⌜ R.AFlag r ≡ R.result (now (t .entry)) (R.IsExpired timer moment) ⌝ }
 {
     timers::is_expired(*t, timer, moment)
+}
+
+// Every timer is stopped: the table is as a fresh one.
+#[no_mangle]
+pub extern "C" fn vig_timers_clear(t: &mut TimerTable) -> Done
+    ensures { λ r. ⌜ R.Done (record { timers = now (t .exit); answer = r }) ≡ R.result (now (t .entry)) R.Clear ⌝ }
+{
+    let a = timers::clear(*t);
+    *t = a.timers;
+    a.answer
 }

@@ -14,6 +14,7 @@ impl State for TimerTable {
         1 vig_timers_stop(timer);
         0 vig_timers_next_timeout();
         0 vig_timers_is_expired(timer, moment);
+        1 vig_timers_clear();
     };
 
     fn fresh(_: &mut Arguments) -> (u8, TimerTable) {

@@ -117,8 +117,8 @@ module _ {M : Type 1} (𝓤 : URA M) (H : Heap 𝓤) (A : Atoms 𝓤) (W : Given
         calls-at ! fm (G 𝓤 H A at-mem run) known (to-g l4 ν γ) (and-then ! (load ! (from ! (stop !)) (look ! 4 refl)) (and-then ! (load ! (from ! (stop !)) (look ! 11 refl)) (and-then ! (load ! (from ! (stop !)) (look ! 9 refl)) (no-more !)))) (λ v.
         use1 W (later (some (λ (r : Done). ((‵ (flft (ν ∷ []) fullShare) ⊛ ‵ ftrue) ⊛ ‵ (Doneᵀ.the-row .own r (v ∷ []))) ⊛ raw (ensured 𝓤 H A g.ended (g.clauses 𝓤 H A at-mem run) (ν ∷ [], tt) (ref l4 γ h, (x1, (x2, tt))) tt r)))) (id⊢ 𝓤 _) $ await ! tt $ pick ! (λ r.
         split ! $ move ! (1 ∷ []) $
-        use1 W (some (λ (zs : TimerTable × (Unit {0} × (Unit {0} × Unit {0}))). ‵ (lasts g.ended (ν ∷ [], tt) (ref l4 γ h, (x1, (x2, tt))) zs) ⊛ raw (fact 𝓤 ((r ≡ setCall h x1 x2 .answer) × (zs .0 ≡ setCall h x1 x2 .timers))))) (id⊢ 𝓤 _) $ pick ! (λ zs.
-        split ! $ move ! (1 ∷ []) $ heard ! ((r ≡ setCall h x1 x2 .answer) × (zs .0 ≡ setCall h x1 x2 .timers)) (λ e. fsplit ! $
+        use1 W (some (λ (zs : TimerTable × (Unit {0} × (Unit {0} × Unit {0}))). ‵ (lasts g.ended (ν ∷ [], tt) (ref l4 γ h, (x1, (x2, tt))) zs) ⊛ raw (fact 𝓤 (record { timers = zs .0; answer = r } ≡ setCall h x1 x2)))) (id⊢ 𝓤 _) $ pick ! (λ zs.
+        split ! $ move ! (1 ∷ []) $ heard ! (record { timers = zs .0; answer = r } ≡ setCall h x1 x2) (λ e. fsplit ! $
         move ! (2 ∷ []) $ split ! $ move ! (1 ∷ []) $ peeks ! Doneᵀ.the-row (Is Doneᵀ.the-row) (shows 𝓤 H A Doneᵀ.the-row) r (v ∷ []) (λ is.
         land ! (from ! (stop !)) (init ! 9 refl (LL.lawful Doneᵀ.the-type Doneᴸ.the-laws 𝓤 H A W .typed r _ is .0)) $
         rewrite ! 9 (λ (u : Val). ‵ (fat fullShare Doneᴸ.mir l5 0 u)) (ap only (LL.tells Doneᵀ.the-type Doneᴸ.the-laws r _ is)) refl $
@@ -132,7 +132,7 @@ module _ {M : Type 1} (𝓤 : URA M) (H : Heap 𝓤) (A : Atoms 𝓤) (W : Given
         assigns ! (agg ! (and-then ! (load ! (from ! (stop !)) (look ! 5 refl)) (and-then ! (load ! (from ! (stop !)) (look ! 9 refl)) (no-more !)))) (from ! (stop !)) (init ! 18 refl (LL.lawful TimersOutᵀ.the-type TimersOutᴸ.the-laws 𝓤 H A W .typed (out (zs .0) r) _ (out-is (zs .0) r v was is) .0)) $
         returns ! (look ! 18 refl) $ forget ! 5 refl $ forget ! 7 refl $ forget ! 9 refl $ forget ! 1 refl $ forget ! 12 refl $ forget ! 14 refl $ forget ! 16 refl $ forget ! 18 refl $
         move ! (18 ∷ 19 ∷ []) $ free1 ! $ move ! (16 ∷ 17 ∷ []) $ free1 ! $ move ! (14 ∷ 15 ∷ []) $ free1 ! $ move ! (12 ∷ 13 ∷ []) $ free1 ! $ move ! (1 ∷ 11 ∷ []) $ free1 ! $ move ! (8 ∷ 9 ∷ []) $ free1 ! $ move ! (6 ∷ 7 ∷ []) $ free1 ! $ move ! (4 ∷ 5 ∷ []) $ free1 ! $ free0 ! $
-        keep ! (1 ∷ []) $ by ! (exits (out (zs .0) r) (out-is (zs .0) r v was is) (λ i. out (e .1 i) (e .0 i)))))))))))))))))))
+        keep ! (1 ∷ []) $ by ! (exits (out (zs .0) r) (out-is (zs .0) r v was is) e)))))))))))))))))
 
 module _ {M : Type 1} (𝓤 : URA M) (H : Heap 𝓤) (A : Atoms 𝓤) (W : Given 𝓤 H A) (at-mem : Memory → SProp 𝓤) (run : Routine → Fun 𝓤) where
   walks : (C : Calls 𝓤 H) (Λ : Loops 𝓤 H) → FmC 𝓤 H (W .laws) C → Triple 𝓤 (C #g) (G 𝓤 H A at-mem run) → Walks 𝓤 H A f.ended stayed (WpFn 𝓤 H C Λ code.function) (f.clauses 𝓤 H A at-mem run)

@@ -4,11 +4,11 @@ use borrow.Author.Needs.{needs}
 use Rattle.path.proofs.sends.back_off.Statement.{statement}
 use Rattle.path.proofs.sends.back_off.Tie as tie
 
-shl-result : tie.Need-shl-result
-shl-result c = search needs
+shl-t2 : tie.Need-shl-t2
+shl-t2 c = search needs
 
 returns : tie.Need-returns
-returns c = shifted (c .args .lost) (c .pre)
+returns c = λ i. record { us = shifted (c .args .lost) (c .pre) i }
 
 pub back-off-spec : {M : Type 1} → statement M
-back-off-spec = tie.close (tie.spec shl-result returns)
+back-off-spec = tie.close (tie.spec shl-t2 returns)

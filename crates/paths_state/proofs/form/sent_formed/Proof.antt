@@ -1,15 +1,17 @@
 -- The loop's invariants: the places past the count are zero, and all moments have their form, exactly if what was gathered and what is left is so.
-use Prim.Native.Nat.{ℕ, _≤_, _-_, max}
+use Prim.Native.Nat.{ℕ, _+_, _≤_, _-_, max}
 use mathlib.Core.Path.{_≡_, refl, sym, ap, ap₂, _∙_}
-use mathlib.Core.Bool.{Bool, _&&_}
+use mathlib.Core.Bool.{Bool, cond, _&&_}
 use native.Mathlib.Omega.{arith}
-use lib.Dec.{leb}
-use lib.ListN.{length, take, drop}
+use lib.Bits.{bitOr}
+use lib.Dec.{leb, ltb}
+use lib.ListN.{length, take, drop, getD}
 use Rattle.lists.specs.Defs.{all, nought}
 use Rattle.lists.specs.Held.{long}
 use Rattle.lists.specs.Tests.{all-done, past-all}
 use Rattle.values.specs.Time.{momentFormed}
 use borrow.Author.Needs.{needs}
+use Rattle.challenges.specs.Challenges.{zeroChallenge}
 use Rattle.paths_state.specs.Formed.{noChallenge, timed}
 use Rattle.paths_state.specs.Laws.{all-timed, late-more, tail-done, tail-more, word-none, wordOf}
 use Rattle.paths_state.proofs.form.sent_formed.Statement.{statement}
@@ -33,6 +35,9 @@ mul-x c = search needs
 element-copy-out-x : tie.Need-element-copy-out-x Inv-loop μ-loop
 element-copy-out-x c = search needs
 
+moment-bits-requires : tie.Need-moment-bits-requires Inv-loop μ-loop
+moment-bits-requires c κs = search needs
+
 past-count-requires : tie.Need-past-count-requires Inv-loop μ-loop
 past-count-requires c κs = search needs
 
@@ -46,10 +51,14 @@ loop-again : tie.Need-loop-again Inv-loop μ-loop
 loop-again c =
     let s = c .before .before .before .before .before .before .args .t1 in
     let o = c .before .before .before .before .before .loop in
+    let x = getD (s .items) (o .i) zeroChallenge in
+    let m = c .before .before .moment-bits .ensures in
     let l : length (s .items) ≡ 16 = search (needs, long) in (
       omega arith,
-      o .inv .1 ∙ tail-more noChallenge wordOf word-none _ (s .items) (s .count) (o .i) (o .tail) _ (omega arith) (c .past-count .ensures),
-      o .inv .2 ∙ late-more _ (s .items) (o .i) (o .late) (omega arith),
+      o .inv .1
+          ∙ tail-more noChallenge wordOf word-none _ (s .items) (s .count) (o .i) (o .tail) _ (omega arith)
+          (c .past-count .ensures ∙ ap (λ (n : ℕ). cond (ltb (o .i) (s .count)) 0 (bitOr (bitOr (x .«data») (x .size)) n)) m),
+      o .inv .2 ∙ late-more _ (s .items) (o .i) (o .late) (omega arith) ∙ ap (λ (n : ℕ). momentFormed (bitOr (o .late) n) && all timed (drop (o .i + 1) (s .items))) (sym m),
     )
 
 returns : tie.Need-returns Inv-loop μ-loop
@@ -65,4 +74,4 @@ returns c =
     ∙ ap (λ (b : Bool). all timed (take (s .count) (s .items)) && b) (sym (past-all noChallenge 16 (s .count) (s .items) l)))
 
 pub sent-formed-spec : {M : Type 1} → statement M
-sent-formed-spec = tie.close (tie.spec Inv-loop μ-loop loop-holds mul-x element-copy-out-x past-count-requires add-i loop-less loop-again returns)
+sent-formed-spec = tie.close (tie.spec Inv-loop μ-loop loop-holds mul-x element-copy-out-x moment-bits-requires past-count-requires add-i loop-less loop-again returns)

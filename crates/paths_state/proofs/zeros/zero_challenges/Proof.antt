@@ -1,13 +1,15 @@
 -- The loop's invariant: all are zero exactly if the challenges gathered so far and those that are left are.
-use Prim.Native.Nat.{_≤_, _-_}
-use mathlib.Core.Path.{_≡_, refl, sym, _∙_}
+use Prim.Native.Nat.{ℕ, _+_, _≤_, _-_}
+use mathlib.Core.Path.{_≡_, refl, sym, ap, _∙_}
 use mathlib.Core.Bool.{_&&_}
 use native.Mathlib.Omega.{arith}
-use lib.ListN.{length, drop}
+use lib.Bits.{bitOr}
+use lib.ListN.{length, drop, getD}
 use Rattle.lists.specs.Defs.{all, nought}
 use Rattle.lists.specs.Held.{long}
 use Rattle.lists.specs.Tests.{all-done, past-all}
 use borrow.Author.Needs.{needs}
+use Rattle.challenges.specs.Challenges.{zeroChallenge}
 use Rattle.paths_state.specs.Formed.{noChallenge}
 use Rattle.paths_state.specs.Laws.{word-more}
 use Rattle.paths_state.proofs.zeros.zero_challenges.Statement.{statement}
@@ -28,6 +30,9 @@ mul-x c = search needs
 array-copy-out-x : tie.Need-array-copy-out-x Inv-loop μ-loop
 array-copy-out-x c = search needs
 
+moment-bits-requires : tie.Need-moment-bits-requires Inv-loop μ-loop
+moment-bits-requires c κs = search needs
+
 add-i : tie.Need-add-i Inv-loop μ-loop
 add-i c = search needs
 
@@ -39,7 +44,11 @@ loop-again c =
     let a = c .before .before .before .before .before .args .t1 in
     let o = c .before .before .before .before .loop in
     let l : length a ≡ 16 = search (needs, long) in
-    (omega arith, o .inv .1 ∙ word-more _ a (o .i) (o .acc) (omega arith))
+    let x = getD a (o .i) zeroChallenge in (
+      omega arith,
+      o .inv .1 ∙ word-more _ a (o .i) (o .acc) (omega arith)
+          ∙ ap (λ (n : ℕ). nought (bitOr (o .acc) (bitOr (bitOr (x .«data») (x .size)) n)) && all noChallenge (drop (o .i + 1) a)) (sym (c .before .moment-bits .ensures)),
+    )
 
 returns : tie.Need-returns Inv-loop μ-loop
 returns c =
@@ -49,4 +58,4 @@ returns c =
     sym (past-all noChallenge 16 0 a l ∙ o .inv .1 ∙ all-done noChallenge a (o .i) (nought (o .acc)) (omega arith))
 
 pub zero-challenges-spec : {M : Type 1} → statement M
-zero-challenges-spec = tie.close (tie.spec Inv-loop μ-loop loop-holds mul-x array-copy-out-x add-i loop-less loop-again returns)
+zero-challenges-spec = tie.close (tie.spec Inv-loop μ-loop loop-holds mul-x array-copy-out-x moment-bits-requires add-i loop-less loop-again returns)
