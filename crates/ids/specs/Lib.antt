@@ -11,6 +11,6 @@ pub mod AddWays
 pub mod AddLaws
 pub mod IssueLaws
 pub mod CallLaws
-pub mod Lift
 pub mod Runs
 pub mod RunsProof
+pub mod RunsExample

@@ -1,17 +1,18 @@
 -- What is promised of the code: of every published call, on any state and over any run of calls. This file is the statement, to be read alone; that all
 -- of it holds is `held` in RunsProof.antt.
 --
--- A CodeCall is a published call with the arguments that the code takes, of their form or not. `result s c` is what the contract of c in src/calls.rt says
--- that it returns on the state s, word for word; `made s c` is the state that is in it, or s where the call only reads, and `refusal s c` its number.
--- `calls s cs` is the state after the calls cs, one after the other, refused ones too. `view`, and `doneCall` to `frameCall`, are of
+-- A CodeCall is a published call with the arguments that the code takes, of their form or not. `result s c` is what the call c returns on the state s: the
+-- contracts of the crates by_value and vignorasc say so of the code. `made s c` is the state that is in it, or s where the call only reads, and `refusal s c`
+-- its number. `calls s cs` is the state after the calls cs, one after the other, refused ones too. `view`, and `doneCall` to `frameCall`, are of
 -- Reading.antt; `wellFormed` is of ids_state; `apply`, `run` and what is said of them are of ids_rules.
 use Prim.Native.Nat.{ℕ}
 use mathlib.Core.Path.{_≡_}
 use mathlib.Core.List.{List, [], _∷_, _++_, map}
 use mathlib.Core.Bool.{Bool, true, false, cond, not, _&&_, _||_}
+use mathlib.Core.Option.{Option, none, some}
 use lib.Dec.{eqb, leb}
 use lib.ListN.{length}
-use Rattle.lists.specs.Defs.{given, keep, has}
+use Rattle.lists.specs.Defs.{given, keep, has, maybe}
 use Rattle.values.specs.Cid.{idFormed}
 use Rattle.values.specs.Token.{tokenFormed, tokenView}
 use Rattle.values.specs.declared.token.Token.{Token}
@@ -23,11 +24,12 @@ use Rattle.values.specs.declared.cid.ConnectionId.{ConnectionId}
 use Rattle.ids_rules.specs.View.{Out}
 use Rattle.ids_rules.specs.Steps.{freshFormed}
 use Rattle.ids_rules.specs.Calls.{Query, GetScid, GetDcid, FindScid, UnusedScids, UnusedDcids, LowestUnusedDcidSeq, NextScidToAdvertise, NextDcidToRetire, CreateNewConnectionIdFrame, NeedSendCidControlFrames, ZeroLengthScid, ZeroLengthDcid, ScidCount, ScidAt, DcidCount, DcidAt}
-use Rattle.ids_rules.specs.Calls.{Call, Reply, queryFormed, apply, run}
-use Rattle.ids_rules.specs.Promise.{Starts, history, counted, live, sequences}
+use Rattle.ids_rules.specs.Calls.{Call, Reply, queryFormed, callFormed, apply, run}
+use Rattle.ids_rules.specs.Promise.{Starts, counted, out, sequences}
 use Rattle.ids_state.specs.Formed.{wellFormed}
 use Rattle.ids_state.specs.declared.state.Ids.{Ids}
 use Rattle.ids.specs.Reading.{view, pathFormed, doneOf, issuedOf, freedOf, retiredOf, countedOf, flaggedOf, numberedOf, itemAnswerOf, foundAnswerOf, frameOf}
+use Rattle.ids.specs.Reading.{doneAt, issuedAt, freedAt, retiredAt, countedAt, flaggedAt, numberedAt, itemAt, foundAt, frameAt}
 use Rattle.ids.specs.Reading.{doneCall, issuedCall, freedCall, retiredCall, countedCall, flaggedCall, numberedCall, itemCall, foundCall, frameCall, freshIds}
 use Rattle.ids.specs.declared.answers.ItemAnswer.{ItemAnswer}
 use Rattle.ids.specs.declared.answers.FoundAnswer.{FoundAnswer}
@@ -168,38 +170,79 @@ viewCall (Reads q) = C.Ask q
 abbrev pub viewCalls : List CodeCall → List Call
 viewCalls cs = map viewCall (keep argsFormed cs)
 
-abbrev pub askedAs : Query → Reply → Result
-askedAs (GetScid seq) r = AnItem (itemAnswerOf r)
-askedAs (GetDcid seq) r = AnItem (itemAnswerOf r)
-askedAs (FindScid cid) r = AFound (foundAnswerOf r)
-askedAs UnusedScids r = ACount (countedOf r)
-askedAs UnusedDcids r = ACount (countedOf r)
-askedAs LowestUnusedDcidSeq r = ANumber (numberedOf r)
-askedAs NextScidToAdvertise r = ANumber (numberedOf r)
-askedAs NextDcidToRetire r = ANumber (numberedOf r)
-askedAs (CreateNewConnectionIdFrame seq) r = AFrame (frameOf r)
-askedAs NeedSendCidControlFrames r = AFlag (flaggedOf r)
-askedAs ZeroLengthScid r = AFlag (flaggedOf r)
-askedAs ZeroLengthDcid r = AFlag (flaggedOf r)
-askedAs ScidCount r = ACount (countedOf r)
-askedAs (ScidAt place) r = AnItem (itemAnswerOf r)
-askedAs DcidCount r = ACount (countedOf r)
-askedAs (DcidAt place) r = AnItem (itemAnswerOf r)
+-- the shape of a call's result
+pub data Shape : Type 0 where
+  ADone : Shape
+  AnIssue : Shape
+  AFreed : Shape
+  ARetired : Shape
+  Counts : Shape
+  Flags : Shape
+  Numbers : Shape
+  Items : Shape
+  Finds : Shape
+  Frames : Shape
+
+abbrev pub askedShape : Query → Shape
+askedShape (GetScid seq) = Items
+askedShape (GetDcid seq) = Items
+askedShape (FindScid cid) = Finds
+askedShape UnusedScids = Counts
+askedShape UnusedDcids = Counts
+askedShape LowestUnusedDcidSeq = Numbers
+askedShape NextScidToAdvertise = Numbers
+askedShape NextDcidToRetire = Numbers
+askedShape (CreateNewConnectionIdFrame seq) = Frames
+askedShape NeedSendCidControlFrames = Flags
+askedShape ZeroLengthScid = Flags
+askedShape ZeroLengthDcid = Flags
+askedShape ScidCount = Counts
+askedShape (ScidAt place) = Items
+askedShape DcidCount = Counts
+askedShape (DcidAt place) = Items
+
+abbrev pub shape : CodeCall → Shape
+shape (SetInitialDcid cid token has path) = ADone
+shape (SetScidLimit n) = ADone
+shape (AddScid cid token advertise has path leave) = AnIssue
+shape (RetireScid seq packet) = AFreed
+shape (AddDcid cid seq token b) = ARetired
+shape (MarkScidUsed seq path) = ADone
+shape (MarkDcidUsed seq path) = ADone
+shape (MarkScidToAdvertise seq on) = ADone
+shape (MarkDcidToRetire seq on) = ADone
+shape (Reads q) = askedShape q
 
 abbrev pub replied : Out → Reply
 replied o = record { refusal = o .refusal; answer = o .answer }
 
+abbrev pub shaped : Shape → Out → Result
+shaped ADone o = Done (doneOf o)
+shaped AnIssue o = Issued (issuedOf o)
+shaped AFreed o = Freed (freedOf o)
+shaped ARetired o = Retired (retiredOf o)
+shaped Counts o = ACount (countedOf (replied o))
+shaped Flags o = AFlag (flaggedOf (replied o))
+shaped Numbers o = ANumber (numberedOf (replied o))
+shaped Items o = AnItem (itemAnswerOf (replied o))
+shaped Finds o = AFound (foundAnswerOf (replied o))
+shaped Frames o = AFrame (frameOf (replied o))
+
 abbrev pub resultAs : CodeCall → Out → Result
-resultAs (SetInitialDcid cid token has path) o = Done (doneOf o)
-resultAs (SetScidLimit n) o = Done (doneOf o)
-resultAs (AddScid cid token advertise has path leave) o = Issued (issuedOf o)
-resultAs (RetireScid seq packet) o = Freed (freedOf o)
-resultAs (AddDcid cid seq token b) o = Retired (retiredOf o)
-resultAs (MarkScidUsed seq path) o = Done (doneOf o)
-resultAs (MarkDcidUsed seq path) o = Done (doneOf o)
-resultAs (MarkScidToAdvertise seq on) o = Done (doneOf o)
-resultAs (MarkDcidToRetire seq on) o = Done (doneOf o)
-resultAs (Reads q) o = askedAs q (replied o)
+resultAs c o = shaped (shape c) o
+
+-- a refusal with the number n that leaves the state s: every other field of the answer is zero
+abbrev pub refusedAt : Shape → ℕ → Ids → Result
+refusedAt ADone n s = Done (doneAt n s)
+refusedAt AnIssue n s = Issued (issuedAt n 0 s)
+refusedAt AFreed n s = Freed (freedAt n none s)
+refusedAt ARetired n s = Retired (retiredAt n [] s)
+refusedAt Counts n s = ACount (countedAt n 0)
+refusedAt Flags n s = AFlag (flaggedAt n false)
+refusedAt Numbers n s = ANumber (numberedAt n none)
+refusedAt Items n s = AnItem (itemAt n none)
+refusedAt Finds n s = AFound (foundAt n none)
+refusedAt Frames n s = AFrame (frameAt n none)
 
 -- ---- one call
 
@@ -207,9 +250,23 @@ resultAs (Reads q) o = askedAs q (replied o)
 abbrev pub Applies : Type 0
 Applies = (s : Ids) (c : CodeCall) → wellFormed s ≡ true → argsFormed c ≡ true → result s c ≡ resultAs c (apply (view s) (viewCall c))
 
--- a state or an argument not of its form: refused with 1, and the state comes back as it was
+-- and no constructor is left over: every call of the rules is that of a published call, and their arguments have their form alike. (A number is
+-- unbounded in both, and so is a token's length; the code holds numbers below 2^64 and tokens of 16 bytes.)
+pub record Published (c : Call) : Type 0 where
+  pub call : CodeCall
+  pub is : viewCall call ≡ c
+  pub formed : argsFormed call ≡ callFormed c
+
+abbrev pub Complete : Type 0
+Complete = (c : Call) → Published c
+
+-- a state or an argument not of its form: refused with 1, the state comes back as it was, and every other field is zero
 abbrev pub Malformed : Type 0
-Malformed = (s : Ids) (c : CodeCall) → (wellFormed s && argsFormed c) ≡ false → (refusal s c ≡ 1) × (made s c ≡ s)
+Malformed = (s : Ids) (c : CodeCall) → (wellFormed s && argsFormed c) ≡ false → result s c ≡ refusedAt (shape c) 1 s
+
+-- a refusal, whatever its number and on any state at all, gives that number and the state that it leaves, and every other field of the answer is zero
+abbrev pub OnlyRefuses : Type 0
+OnlyRefuses = (s : Ids) (c : CodeCall) → eqb (refusal s c) 0 ≡ false → result s c ≡ refusedAt (shape c) (refusal s c) (made s c)
 
 -- 1, and every number from 5 on, leaves nothing changed, on any state at all
 abbrev pub LeavesNothing : Type 0
@@ -271,9 +328,39 @@ sourceSeqs s = sequences (view s)
 abbrev pub WithoutGap : Type 0
 WithoutGap = (s : Ids) → Started s → (cs : List CodeCall) → issues s cs ≡ counted 1 (length (issues s cs))
 
--- the table holds sequence 0 and those issued, less those taken out
+-- a call and what it returned
+pub record Event : Type 0 where
+  pub call : CodeCall
+  pub returned : Result
+
+abbrev pub history : Ids → List CodeCall → List Event
+history s [] = []
+history s (c ∷ cs) = record { call = c; returned = result s c } ∷ history (made s c) cs
+
+-- the sequence that a retire call names
+abbrev pub retires : CodeCall → Option ℕ
+retires (SetInitialDcid cid token has path) = none
+retires (SetScidLimit n) = none
+retires (AddScid cid token advertise has path leave) = none
+retires (RetireScid seq packet) = some seq
+retires (AddDcid cid seq token b) = none
+retires (MarkScidUsed seq path) = none
+retires (MarkDcidUsed seq path) = none
+retires (MarkScidToAdvertise seq on) = none
+retires (MarkDcidToRetire seq on) = none
+retires (Reads q) = none
+
+-- a successful issue comes to the end; a retire takes its sequence out if it is there and not the only one, whatever it answered but 1
+abbrev pub logged : List ℕ → Event → List ℕ
+logged l e = maybe (retires (e .call)) (l ++ issuedIn (e .returned)) (λ n. cond (eqb (refusalIn (e .returned)) 1) l (out n l))
+
+abbrev pub live : List ℕ → List Event → List ℕ
+live l [] = l
+live l (e ∷ es) = live (logged l e) es
+
+-- the table holds sequence 0 and those issued, less those taken out: as the code's own answers say
 abbrev pub TableIsHistory : Type 0
-TableIsHistory = (s : Ids) → Started s → (cs : List CodeCall) → sourceSeqs (calls s cs) ≡ live (0 ∷ []) (history (view s) (viewCalls cs))
+TableIsHistory = (s : Ids) → Started s → (cs : List CodeCall) → sourceSeqs (calls s cs) ≡ live (0 ∷ []) (history s cs)
 
 -- a sequence that was there, 0 or issued, and is out after cs, is out after any more calls ds
 abbrev pub NeverReturns : Type 0
@@ -284,7 +371,9 @@ NeverReturns = (s : Ids) → Started s → (cs ds : List CodeCall) (n : ℕ) →
 
 pub record Held : Type 0 where
   pub applies : Applies
+  pub complete : Complete
   pub malformed : Malformed
+  pub onlyRefuses : OnlyRefuses
   pub leavesNothing : LeavesNothing
   pub keepsWell : KeepsWell
   pub freshOne : FreshOne

@@ -1,14 +1,14 @@
 -- Every promise of Runs.antt holds.
 use Prim.Native.Nat.{ℕ, _≤_}
 use mathlib.Core.Path.{_≡_, refl, sym, ap, ap₂, _∙_, subst}
-use mathlib.Core.List.{List, [], _∷_, _++_, map}
-use mathlib.Core.Bool.{Bool, true, false, cond, not, _&&_, _||_}
+use mathlib.Core.List.{List, [], _∷_, _++_, map, append-nil}
+use mathlib.Core.Bool.{Bool, true, false, cond, not, _&&_, _||_, and-true}
 use mathlib.Core.Option.{Option, none, some}
 use native.Mathlib.Omega.{arith}
 use lib.Dec.{eqb, leb}
 use lib.ListN.{length}
 use borrow.Author.Tests.{ne-eqb}
-use Rattle.lists.specs.Defs.{given, first, any, keep, has}
+use Rattle.lists.specs.Defs.{given, present, maybe, first, any, keep, has}
 use Rattle.lists.specs.Bools.{and-both}
 use Rattle.values.specs.Limits.{queueSlots}
 use Rattle.values.specs.Cid.{idFormed}
@@ -22,24 +22,19 @@ use Rattle.ids_rules.specs.Calls.{Query, GetScid, GetDcid, FindScid, UnusedScid
 use Rattle.ids_rules.specs.Calls.{Call, Reply, reply, queryFormed, callFormed, step, apply, after, run}
 use Rattle.ids_rules.specs.Ends.{AddScidEnds, refuses, raises, issues as issues-one, RetireScidEnds, unissued, only, absent, out, frees, AddDcidEnds, rejects, again, late4, late, lowers, renews, adds, add-scid-ends, retire-scid-ends, add-dcid-ends}
 use Rattle.ids_rules.specs.Laws.{decided, optioned}
-use Rattle.ids_rules.specs.Promise.{Starts, starts, history, issuedBy, counted, sequences}
+use Rattle.ids_rules.specs.Promise.{Starts, starts, issuedBy, counted, sequences}
 use Rattle.ids_rules.specs.Promised.{promised}
 use Rattle.ids_state.specs.Formed.{wellFormed}
 use Rattle.ids_state.specs.declared.state.Ids.{Ids}
-use Rattle.ids.specs.Reading.{view, idsOf, partsOf, Sought, Fields, pathFormed, foundAt, frameAt, foundAnswerOf, frameOf, doneOf, issuedOf, freedOf, retiredOf, countedOf, flaggedOf, numberedOf, itemAnswerOf, checked}
-use Rattle.ids.specs.Reading.{doneAt, issuedAt, freedAt, retiredAt, countedAt, flaggedAt, numberedAt, itemAt}
+use Rattle.ids.specs.Reading.{view, idsOf, tokenOf, pathOf, partsOf, Sought, Fields, pathFormed, foundAt, frameAt, foundAnswerOf, frameOf, doneOf, issuedOf, freedOf, retiredOf, countedOf, flaggedOf, numberedOf, itemAnswerOf, checked}
+use Rattle.ids.specs.Reading.{countedAt, flaggedAt, numberedAt, itemAt, doneCall, issuedCall, freedCall, retiredCall}
 use Rattle.ids.specs.ReadingLaws.{view-of, view-is}
 use Rattle.ids.specs.WellLaws.{view-well, state-well, step-applies}
-use Rattle.ids.specs.CallLaws.{chosen}
-use Rattle.ids.specs.Lift.{done-applies, issued-applies, freed-applies, retired-applies}
-use Rattle.ids.specs.declared.answers.DoneOut.{DoneOut}
-use Rattle.ids.specs.declared.answers.IssuedOut.{IssuedOut}
-use Rattle.ids.specs.declared.answers.FreedOut.{FreedOut}
-use Rattle.ids.specs.declared.answers.RetiredOut.{RetiredOut}
 use Rattle.ids.specs.Runs.{CodeCall, SetInitialDcid, SetScidLimit, AddScid, RetireScid, AddDcid, MarkScidUsed, MarkDcidUsed, MarkScidToAdvertise, MarkDcidToRetire, Reads, started}
 use Rattle.ids.specs.Runs.{Done, Issued, Freed, Retired, ACount, AFlag, ANumber, AnItem, AFound, AFrame}
-use Rattle.ids.specs.Runs.{argsFormed, asked, result, stateIn, refusalIn, made, refusal, calls, viewCall, viewCalls, askedAs, replied, resultAs, issuedIn, issues}
-use Rattle.ids.specs.Runs.{Applies, Malformed, LeavesNothing, KeepsWell, FreshOne, FreshWell, RunsWell, NeverOne, IsRun, IsStart, WithoutGap, TableIsHistory, NeverReturns, Held}
+use Rattle.ids.specs.Runs.{Shape, ADone, AnIssue, AFreed, ARetired, Counts, Flags, Numbers, Items, Finds, Frames, Result}
+use Rattle.ids.specs.Runs.{argsFormed, asked, result, stateIn, refusalIn, made, refusal, calls, viewCall, viewCalls, askedShape, shape, replied, shaped, resultAs, refusedAt, issuedIn, issues, history, retires, logged, live}
+use Rattle.ids.specs.Runs.{Applies, Published, Complete, Malformed, OnlyRefuses, LeavesNothing, KeepsWell, FreshOne, FreshWell, RunsWell, NeverOne, IsRun, IsStart, WithoutGap, TableIsHistory, NeverReturns, Held}
 use Rattle.ids_rules.specs.Calls as C
 use Rattle.ids_rules.specs.Promise as P
 
@@ -58,60 +53,132 @@ args-call (MarkScidToAdvertise seq on) e = refl
 args-call (MarkDcidToRetire seq on) e = refl
 args-call (Reads q) e = e
 
-module _ (s : Ids) (w : wellFormed s ≡ true) where
-  -- a call that reads
-  ask : {A : Type 0} (of : Reply → A) (x : A) (q : Query) → queryFormed q ≡ true → checked s (queryFormed q) (of (reply (view s) q)) x ≡ of (replied (apply (view s) (C.Ask q)))
-  ask of x q e = sym (chosen s (queryFormed q) (of (reply (view s) q)) x true (ap₂ _&&_ w e)) ∙ ap (λ (o : Out). of (replied o)) (sym (step-applies s w (C.Ask q) e))
+-- the contract of a call, by the shape of its result; f: the arguments have their form
+abbrev contract : Shape → Ids → (f : Bool) → Call → Result
+contract ADone s f c = Done (doneCall s f c)
+contract AnIssue s f c = Issued (issuedCall s f c)
+contract AFreed s f c = Freed (freedCall s f c)
+contract ARetired s f c = Retired (retiredCall s f c)
+contract Counts s f c = ACount (checked s f (countedOf (replied (step (view s) c))) (countedAt 1 0))
+contract Flags s f c = AFlag (checked s f (flaggedOf (replied (step (view s) c))) (flaggedAt 1 false))
+contract Numbers s f c = ANumber (checked s f (numberedOf (replied (step (view s) c))) (numberedAt 1 none))
+contract Items s f c = AnItem (checked s f (itemAnswerOf (replied (step (view s) c))) (itemAt 1 none))
+contract Finds s f c = AFound (checked s f (foundAnswerOf (replied (step (view s) c))) (foundAt 1 none))
+contract Frames s f c = AFrame (checked s f (frameOf (replied (step (view s) c))) (frameAt 1 none))
 
-  asks : (q : Query) → queryFormed q ≡ true → asked s q ≡ askedAs q (replied (apply (view s) (C.Ask q)))
-  asks (GetScid seq) e = ap AnItem (ask itemAnswerOf (itemAt 1 none) (GetScid seq) e)
-  asks (GetDcid seq) e = ap AnItem (ask itemAnswerOf (itemAt 1 none) (GetDcid seq) e)
-  asks (FindScid cid) e = ap AFound (ask foundAnswerOf (foundAt 1 none) (FindScid cid) e)
-  asks UnusedScids e = ap ACount (ask countedOf (countedAt 1 0) UnusedScids e)
-  asks UnusedDcids e = ap ACount (ask countedOf (countedAt 1 0) UnusedDcids e)
-  asks LowestUnusedDcidSeq e = ap ANumber (ask numberedOf (numberedAt 1 none) LowestUnusedDcidSeq e)
-  asks NextScidToAdvertise e = ap ANumber (ask numberedOf (numberedAt 1 none) NextScidToAdvertise e)
-  asks NextDcidToRetire e = ap ANumber (ask numberedOf (numberedAt 1 none) NextDcidToRetire e)
-  asks (CreateNewConnectionIdFrame seq) e = ap AFrame (ask frameOf (frameAt 1 none) (CreateNewConnectionIdFrame seq) e)
-  asks NeedSendCidControlFrames e = ap AFlag (ask flaggedOf (flaggedAt 1 false) NeedSendCidControlFrames e)
-  asks ZeroLengthScid e = ap AFlag (ask flaggedOf (flaggedAt 1 false) ZeroLengthScid e)
-  asks ZeroLengthDcid e = ap AFlag (ask flaggedOf (flaggedAt 1 false) ZeroLengthDcid e)
-  asks ScidCount e = ap ACount (ask countedOf (countedAt 1 0) ScidCount e)
-  asks (ScidAt place) e = ap AnItem (ask itemAnswerOf (itemAt 1 none) (ScidAt place) e)
-  asks DcidCount e = ap ACount (ask countedOf (countedAt 1 0) DcidCount e)
-  asks (DcidAt place) e = ap AnItem (ask itemAnswerOf (itemAt 1 none) (DcidAt place) e)
+asked-is : (s : Ids) (q : Query) → asked s q ≡ contract (askedShape q) s (queryFormed q) (C.Ask q)
+asked-is s (GetScid seq) = refl
+asked-is s (GetDcid seq) = refl
+asked-is s (FindScid cid) = refl
+asked-is s UnusedScids = refl
+asked-is s UnusedDcids = refl
+asked-is s LowestUnusedDcidSeq = refl
+asked-is s NextScidToAdvertise = refl
+asked-is s NextDcidToRetire = refl
+asked-is s (CreateNewConnectionIdFrame seq) = refl
+asked-is s NeedSendCidControlFrames = refl
+asked-is s ZeroLengthScid = refl
+asked-is s ZeroLengthDcid = refl
+asked-is s ScidCount = refl
+asked-is s (ScidAt place) = refl
+asked-is s DcidCount = refl
+asked-is s (DcidAt place) = refl
+
+result-is : (s : Ids) (c : CodeCall) → result s c ≡ contract (shape c) s (argsFormed c) (viewCall c)
+result-is s (SetInitialDcid cid token has path) = refl
+result-is s (SetScidLimit n) = refl
+result-is s (AddScid cid token advertise has path leave) = refl
+result-is s (RetireScid seq packet) = refl
+result-is s (AddDcid cid seq token b) = refl
+result-is s (MarkScidUsed seq path) = refl
+result-is s (MarkDcidUsed seq path) = refl
+result-is s (MarkScidToAdvertise seq on) = refl
+result-is s (MarkDcidToRetire seq on) = refl
+result-is s (Reads q) = asked-is s q
+
+-- a test inside, whose outcome is known
+pick : {A B : Type 0} (f : A → B) (x y : A) (b v : Bool) → b ≡ v → f (cond b x y) ≡ cond v (f x) (f y)
+pick f x y b true e = ap (λ (a : Bool). f (cond a x y)) e
+pick f x y b false e = ap (λ (a : Bool). f (cond a x y)) e
+
+-- what was tested chooses between the step and refusal 1
+chooses : (k : Shape) (s : Ids) (f : Bool) (c : Call) (v : Bool) → (wellFormed s && f) ≡ v → contract k s f c ≡ cond v (shaped k (step (view s) c)) (refusedAt k 1 s)
+chooses ADone s f c v e = pick Done (doneOf (step (view s) c)) _ (wellFormed s && f) v e
+chooses AnIssue s f c v e = pick Issued (issuedOf (step (view s) c)) _ (wellFormed s && f) v e
+chooses AFreed s f c v e = pick Freed (freedOf (step (view s) c)) _ (wellFormed s && f) v e
+chooses ARetired s f c v e = pick Retired (retiredOf (step (view s) c)) _ (wellFormed s && f) v e
+chooses Counts s f c v e = pick ACount (countedOf (replied (step (view s) c))) _ (wellFormed s && f) v e
+chooses Flags s f c v e = pick AFlag (flaggedOf (replied (step (view s) c))) _ (wellFormed s && f) v e
+chooses Numbers s f c v e = pick ANumber (numberedOf (replied (step (view s) c))) _ (wellFormed s && f) v e
+chooses Items s f c v e = pick AnItem (itemAnswerOf (replied (step (view s) c))) _ (wellFormed s && f) v e
+chooses Finds s f c v e = pick AFound (foundAnswerOf (replied (step (view s) c))) _ (wellFormed s && f) v e
+chooses Frames s f c v e = pick AFrame (frameOf (replied (step (view s) c))) _ (wellFormed s && f) v e
 
 pub applies : Applies
-applies s (SetInitialDcid cid token has path) w e = ap Done (done-applies s w (idFormed cid && tokenFormed token && pathFormed has path) e (C.SetInitialDcid cid (tokenView token) (given has path)) (args-call (SetInitialDcid cid token has path) e))
-applies s (SetScidLimit n) w e = ap Done (done-applies s w true e (C.SetScidLimit n) refl)
-applies s (AddScid cid token advertise has path leave) w e =
-    ap Issued (issued-applies s w (idFormed cid && tokenFormed token && pathFormed has path) e (C.AddScid cid (tokenView token) advertise (given has path) leave) (args-call (AddScid cid token advertise has path leave) e))
-applies s (RetireScid seq packet) w e = ap Freed (freed-applies s w (idFormed packet) e (C.RetireScid seq packet) e)
-applies s (AddDcid cid seq token b) w e = ap Retired (retired-applies s w (idFormed cid) e (C.AddDcid cid seq (token .bytes) b) e)
-applies s (MarkScidUsed seq path) w e = ap Done (done-applies s w true e (C.MarkScidUsed seq path) refl)
-applies s (MarkDcidUsed seq path) w e = ap Done (done-applies s w true e (C.MarkDcidUsed seq path) refl)
-applies s (MarkScidToAdvertise seq on) w e = ap Done (done-applies s w true e (C.MarkScidToAdvertise seq on) refl)
-applies s (MarkDcidToRetire seq on) w e = ap Done (done-applies s w true e (C.MarkDcidToRetire seq on) refl)
-applies s (Reads q) w e = asks s w q e
+applies s c w e =
+    result-is s c
+    ∙ chooses (shape c) s (argsFormed c) (viewCall c) true (ap₂ _&&_ w e)
+    ∙ ap (resultAs c) (sym (step-applies s w (viewCall c) (args-call c e)))
 
 -- ---- or refusal 1
 
-module _ (s : Ids) (f : Bool) (e : (wellFormed s && f) ≡ false) where
-  falls : {A : Type 0} (x y : A) → checked s f x y ≡ y
-  falls x y = sym (chosen s f x y false e)
+pub malformed : Malformed
+malformed s c e = result-is s c ∙ chooses (shape c) s (argsFormed c) (viewCall c) false e
 
-  -- of each kind of call that changes the state
-  no-done : (c : Call) → (refusalIn (Done (checked s f (doneOf (step (view s) c)) (doneAt 1 s))) ≡ 1) × (stateIn s (Done (checked s f (doneOf (step (view s) c)) (doneAt 1 s))) ≡ s)
-  no-done c = let p = falls (doneOf (step (view s) c)) (doneAt 1 s) in (ap (λ (r : DoneOut). r .answer .refusal) p, ap (λ (r : DoneOut). r .ids) p)
+-- ---- what a result has
 
-  no-issued : (c : Call) → (refusalIn (Issued (checked s f (issuedOf (step (view s) c)) (issuedAt 1 0 s))) ≡ 1) × (stateIn s (Issued (checked s f (issuedOf (step (view s) c)) (issuedAt 1 0 s))) ≡ s)
-  no-issued c = let p = falls (issuedOf (step (view s) c)) (issuedAt 1 0 s) in (ap (λ (r : IssuedOut). r .answer .refusal) p, ap (λ (r : IssuedOut). r .ids) p)
+found-refusal : (n : ℕ) (o : Option Sought) → foundAt n o .refusal ≡ n
+found-refusal n none = refl
+found-refusal n (some f) = refl
 
-  no-freed : (c : Call) → (refusalIn (Freed (checked s f (freedOf (step (view s) c)) (freedAt 1 none s))) ≡ 1) × (stateIn s (Freed (checked s f (freedOf (step (view s) c)) (freedAt 1 none s))) ≡ s)
-  no-freed c = let p = falls (freedOf (step (view s) c)) (freedAt 1 none s) in (ap (λ (r : FreedOut). r .answer .refusal) p, ap (λ (r : FreedOut). r .ids) p)
+frame-refusal : (n : ℕ) (o : Option Fields) → frameAt n o .refusal ≡ n
+frame-refusal n none = refl
+frame-refusal n (some f) = refl
 
-  no-retired : (c : Call) → (refusalIn (Retired (checked s f (retiredOf (step (view s) c)) (retiredAt 1 [] s))) ≡ 1) × (stateIn s (Retired (checked s f (retiredOf (step (view s) c)) (retiredAt 1 [] s))) ≡ s)
-  no-retired c = let p = falls (retiredOf (step (view s) c)) (retiredAt 1 [] s) in (ap (λ (r : RetiredOut). r .answer .refusal) p, ap (λ (r : RetiredOut). r .ids) p)
+as-refusal : (k : Shape) (o : Out) → refusalIn (shaped k o) ≡ o .refusal
+as-refusal ADone o = refl
+as-refusal AnIssue o = refl
+as-refusal AFreed o = refl
+as-refusal ARetired o = refl
+as-refusal Counts o = refl
+as-refusal Flags o = refl
+as-refusal Numbers o = refl
+as-refusal Items o = refl
+as-refusal Finds o = found-refusal (o .refusal) (partsOf (o .answer) .sought)
+as-refusal Frames o = frame-refusal (o .refusal) (partsOf (o .answer) .fields)
+
+-- of a refusal: its number, its state, and that it issues nothing
+at-refused : (k : Shape) (s : Ids) → (refusalIn (refusedAt k 1 s) ≡ 1) × (stateIn s (refusedAt k 1 s) ≡ s) × (issuedIn (refusedAt k 1 s) ≡ [])
+at-refused ADone s = (refl, refl, refl)
+at-refused AnIssue s = (refl, refl, refl)
+at-refused AFreed s = (refl, refl, refl)
+at-refused ARetired s = (refl, refl, refl)
+at-refused Counts s = (refl, refl, refl)
+at-refused Flags s = (refl, refl, refl)
+at-refused Numbers s = (refl, refl, refl)
+at-refused Items s = (refl, refl, refl)
+at-refused Finds s = (refl, refl, refl)
+at-refused Frames s = (refl, refl, refl)
+
+module _ (s : Ids) (c : CodeCall) (e : (wellFormed s && argsFormed c) ≡ false) where
+  one-refusal : refusal s c ≡ 1
+  one-refusal = ap refusalIn (malformed s c e) ∙ at-refused (shape c) s .0
+
+  one-made : made s c ≡ s
+  one-made = ap (stateIn s) (malformed s c e) ∙ at-refused (shape c) s .1
+
+-- an outcome that answers nothing is given as a refusal with its number and its state
+as-refused : (k : Shape) (n : ℕ) (v : View) → shaped k (refused n v) ≡ refusedAt k n (idsOf v)
+as-refused ADone n v = refl
+as-refused AnIssue n v = refl
+as-refused AFreed n v = refl
+as-refused ARetired n v = refl
+as-refused Counts n v = refl
+as-refused Flags n v = refl
+as-refused Numbers n v = refl
+as-refused Items n v = refl
+as-refused Finds n v = refl
+as-refused Frames n v = refl
 
 asked-state : (s : Ids) (q : Query) → stateIn s (asked s q) ≡ s
 asked-state s (GetScid seq) = refl
@@ -131,82 +198,12 @@ asked-state s (ScidAt place) = refl
 asked-state s DcidCount = refl
 asked-state s (DcidAt place) = refl
 
-no-asked : (s : Ids) (q : Query) → (wellFormed s && queryFormed q) ≡ false → refusalIn (asked s q) ≡ 1
-no-asked s (GetScid seq) e = ap (λ (r : _). refusalIn (AnItem r)) (falls s true e (itemAnswerOf (reply (view s) (GetScid seq))) (itemAt 1 none))
-no-asked s (GetDcid seq) e = ap (λ (r : _). refusalIn (AnItem r)) (falls s true e (itemAnswerOf (reply (view s) (GetDcid seq))) (itemAt 1 none))
-no-asked s (FindScid cid) e = ap (λ (r : _). refusalIn (AFound r)) (falls s (idFormed cid) e (foundAnswerOf (reply (view s) (FindScid cid))) (foundAt 1 none))
-no-asked s UnusedScids e = ap (λ (r : _). refusalIn (ACount r)) (falls s true e (countedOf (reply (view s) UnusedScids)) (countedAt 1 0))
-no-asked s UnusedDcids e = ap (λ (r : _). refusalIn (ACount r)) (falls s true e (countedOf (reply (view s) UnusedDcids)) (countedAt 1 0))
-no-asked s LowestUnusedDcidSeq e = ap (λ (r : _). refusalIn (ANumber r)) (falls s true e (numberedOf (reply (view s) LowestUnusedDcidSeq)) (numberedAt 1 none))
-no-asked s NextScidToAdvertise e = ap (λ (r : _). refusalIn (ANumber r)) (falls s true e (numberedOf (reply (view s) NextScidToAdvertise)) (numberedAt 1 none))
-no-asked s NextDcidToRetire e = ap (λ (r : _). refusalIn (ANumber r)) (falls s true e (numberedOf (reply (view s) NextDcidToRetire)) (numberedAt 1 none))
-no-asked s (CreateNewConnectionIdFrame seq) e = ap (λ (r : _). refusalIn (AFrame r)) (falls s true e (frameOf (reply (view s) (CreateNewConnectionIdFrame seq))) (frameAt 1 none))
-no-asked s NeedSendCidControlFrames e = ap (λ (r : _). refusalIn (AFlag r)) (falls s true e (flaggedOf (reply (view s) NeedSendCidControlFrames)) (flaggedAt 1 false))
-no-asked s ZeroLengthScid e = ap (λ (r : _). refusalIn (AFlag r)) (falls s true e (flaggedOf (reply (view s) ZeroLengthScid)) (flaggedAt 1 false))
-no-asked s ZeroLengthDcid e = ap (λ (r : _). refusalIn (AFlag r)) (falls s true e (flaggedOf (reply (view s) ZeroLengthDcid)) (flaggedAt 1 false))
-no-asked s ScidCount e = ap (λ (r : _). refusalIn (ACount r)) (falls s true e (countedOf (reply (view s) ScidCount)) (countedAt 1 0))
-no-asked s (ScidAt place) e = ap (λ (r : _). refusalIn (AnItem r)) (falls s true e (itemAnswerOf (reply (view s) (ScidAt place))) (itemAt 1 none))
-no-asked s DcidCount e = ap (λ (r : _). refusalIn (ACount r)) (falls s true e (countedOf (reply (view s) DcidCount)) (countedAt 1 0))
-no-asked s (DcidAt place) e = ap (λ (r : _). refusalIn (AnItem r)) (falls s true e (itemAnswerOf (reply (view s) (DcidAt place))) (itemAt 1 none))
-
-pub malformed : Malformed
-malformed s (SetInitialDcid cid token has path) e = no-done s (idFormed cid && tokenFormed token && pathFormed has path) e (C.SetInitialDcid cid (tokenView token) (given has path))
-malformed s (SetScidLimit n) e = no-done s true e (C.SetScidLimit n)
-malformed s (AddScid cid token advertise has path leave) e = no-issued s (idFormed cid && tokenFormed token && pathFormed has path) e (C.AddScid cid (tokenView token) advertise (given has path) leave)
-malformed s (RetireScid seq packet) e = no-freed s (idFormed packet) e (C.RetireScid seq packet)
-malformed s (AddDcid cid seq token b) e = no-retired s (idFormed cid) e (C.AddDcid cid seq (token .bytes) b)
-malformed s (MarkScidUsed seq path) e = no-done s true e (C.MarkScidUsed seq path)
-malformed s (MarkDcidUsed seq path) e = no-done s true e (C.MarkDcidUsed seq path)
-malformed s (MarkScidToAdvertise seq on) e = no-done s true e (C.MarkScidToAdvertise seq on)
-malformed s (MarkDcidToRetire seq on) e = no-done s true e (C.MarkDcidToRetire seq on)
-malformed s (Reads q) e = (no-asked s q e, asked-state s q)
-
--- ---- what a result as of an outcome has
-
-found-refusal : (n : ℕ) (o : Option Sought) → foundAt n o .refusal ≡ n
-found-refusal n none = refl
-found-refusal n (some f) = refl
-
-frame-refusal : (n : ℕ) (o : Option Fields) → frameAt n o .refusal ≡ n
-frame-refusal n none = refl
-frame-refusal n (some f) = refl
-
-asked-refusal : (q : Query) (r : Reply) → refusalIn (askedAs q r) ≡ r .refusal
-asked-refusal (GetScid seq) r = refl
-asked-refusal (GetDcid seq) r = refl
-asked-refusal (FindScid cid) r = found-refusal (r .refusal) (partsOf (r .answer) .sought)
-asked-refusal UnusedScids r = refl
-asked-refusal UnusedDcids r = refl
-asked-refusal LowestUnusedDcidSeq r = refl
-asked-refusal NextScidToAdvertise r = refl
-asked-refusal NextDcidToRetire r = refl
-asked-refusal (CreateNewConnectionIdFrame seq) r = frame-refusal (r .refusal) (partsOf (r .answer) .fields)
-asked-refusal NeedSendCidControlFrames r = refl
-asked-refusal ZeroLengthScid r = refl
-asked-refusal ZeroLengthDcid r = refl
-asked-refusal ScidCount r = refl
-asked-refusal (ScidAt place) r = refl
-asked-refusal DcidCount r = refl
-asked-refusal (DcidAt place) r = refl
-
-as-refusal : (c : CodeCall) (o : Out) → refusalIn (resultAs c o) ≡ o .refusal
-as-refusal (SetInitialDcid cid token has path) o = refl
-as-refusal (SetScidLimit n) o = refl
-as-refusal (AddScid cid token advertise has path leave) o = refl
-as-refusal (RetireScid seq packet) o = refl
-as-refusal (AddDcid cid seq token b) o = refl
-as-refusal (MarkScidUsed seq path) o = refl
-as-refusal (MarkDcidUsed seq path) o = refl
-as-refusal (MarkScidToAdvertise seq on) o = refl
-as-refusal (MarkDcidToRetire seq on) o = refl
-as-refusal (Reads q) o = asked-refusal q (replied o)
-
 ask-after : (v : View) (q : Query) → after v (C.Ask q) ≡ v
 ask-after v q = decided (λ (o : Out). o .view ≡ v) (well v && queryFormed q) (λ e. refl) (λ e. refl)
 
 module _ (s : Ids) (w : wellFormed s ≡ true) where
   pub refusal-is : (c : CodeCall) → argsFormed c ≡ true → refusal s c ≡ apply (view s) (viewCall c) .refusal
-  refusal-is c e = ap refusalIn (applies s c w e) ∙ as-refusal c (apply (view s) (viewCall c))
+  refusal-is c e = ap refusalIn (applies s c w e) ∙ as-refusal (shape c) (apply (view s) (viewCall c))
 
   -- the state after a call is the one that the view after it stands for
   pub made-is : (c : CodeCall) → argsFormed c ≡ true → made s c ≡ idsOf (after (view s) (viewCall c))
@@ -236,7 +233,7 @@ pub keeps-well : KeepsWell
 keeps-well s c w =
     tested (argsFormed c)
     (λ e. ap wellFormed (made-is s w c e) ∙ state-well (after (view s) (viewCall c)) (promised .keepsWell (view s) (viewCall c) (view-well s w)))
-    (λ e. ap wellFormed (malformed s c (and-no s w c e) .1) ∙ w)
+    (λ e. ap wellFormed (one-made s c (and-no s w c e)) ∙ w)
 
 pub leaves-nothing : LeavesNothing
 leaves-nothing s c h =
@@ -244,7 +241,60 @@ leaves-nothing s c h =
     (λ e. let k = and-both (wellFormed s) (argsFormed c) e in
     let q = promised .leavesNothing (view s) (viewCall c) (ap (λ (n : ℕ). eqb n 1 || leb 5 n) (sym (refusal-is s (k .0) c (k .1))) ∙ h) in
     made-is s (k .0) c (k .1) ∙ ap idsOf q ∙ view-is s (k .0))
-    (λ e. malformed s c e .1)
+    (λ e. one-made s c e)
+
+pub only-refuses : OnlyRefuses
+only-refuses s c h =
+    tested (wellFormed s && argsFormed c)
+    (λ e. let k = and-both (wellFormed s) (argsFormed c) e in
+    let r = refusal-is s (k .0) c (k .1) in
+    let o : Out = apply (view s) (viewCall c) in
+    let q : o .answer ≡ Nothing = promised .refusedIsQuiet (view s) (viewCall c) (ap (λ (n : ℕ). eqb n 0) (sym r) ∙ h) in
+    applies s c (k .0) (k .1)
+    ∙ ap (λ (a : Answer). resultAs c (record { refusal = o .refusal; answer = a; view = o .view })) q
+    ∙ as-refused (shape c) (o .refusal) (o .view)
+    ∙ ap₂ (refusedAt (shape c)) (sym r) (sym (made-is s (k .0) c (k .1))))
+    (λ e. malformed s c e ∙ ap₂ (refusedAt (shape c)) (sym (one-refusal s c e)) (sym (one-made s c e)))
+
+-- ---- no call of the rules is left over
+
+abbrev published : (c : CodeCall) → argsFormed c ≡ callFormed (viewCall c) → Published (viewCall c)
+published c e = record { call = c; is = refl; formed = e }
+
+-- an optional token and an optional path, as the code takes them
+abbrev given-one : (cid : ConnectionId) (token : Option (List ℕ)) (path : Option ℕ) → (idFormed cid && tokenFormed (tokenOf token) && pathFormed (present path) (pathOf path)) ≡ idFormed cid
+given-one cid none none = and-true (idFormed cid && true) ∙ and-true (idFormed cid)
+given-one cid none (some p) = and-true (idFormed cid && true) ∙ and-true (idFormed cid)
+given-one cid (some t) none = and-true (idFormed cid && true) ∙ and-true (idFormed cid)
+given-one cid (some t) (some p) = and-true (idFormed cid && true) ∙ and-true (idFormed cid)
+
+read-token : (o : Option (List ℕ)) → tokenView (tokenOf o) ≡ o
+read-token none = refl
+read-token (some t) = refl
+
+read-path : (o : Option ℕ) → given (present o) (pathOf o) ≡ o
+read-path none = refl
+read-path (some p) = refl
+
+pub complete : Complete
+complete (C.SetInitialDcid cid token path) = record {
+  call = SetInitialDcid cid (tokenOf token) (present path) (pathOf path);
+  is = ap₂ (λ (t : Option (List ℕ)) (p : Option ℕ). C.SetInitialDcid cid t p) (read-token token) (read-path path);
+  formed = given-one cid token path;
+}
+complete (C.SetScidLimit n) = published (SetScidLimit n) refl
+complete (C.AddScid cid token advertise path leave) = record {
+  call = AddScid cid (tokenOf token) advertise (present path) (pathOf path) leave;
+  is = ap₂ (λ (t : Option (List ℕ)) (p : Option ℕ). C.AddScid cid t advertise p leave) (read-token token) (read-path path);
+  formed = given-one cid token path;
+}
+complete (C.RetireScid s packet) = published (RetireScid s packet) refl
+complete (C.AddDcid cid s token b) = published (AddDcid cid s (record { bytes = token }) b) refl
+complete (C.MarkScidUsed s p) = published (MarkScidUsed s p) refl
+complete (C.MarkDcidUsed s p) = published (MarkDcidUsed s p) refl
+complete (C.MarkScidToAdvertise s on) = published (MarkScidToAdvertise s on) refl
+complete (C.MarkDcidToRetire s on) = published (MarkDcidToRetire s on) refl
+complete (C.Ask q) = published (Reads q) refl
 
 -- ---- fresh
 
@@ -284,7 +334,7 @@ is-run s (c ∷ cs) w = is-run (made s c) cs (keeps-well s c w) ∙ test (argsFo
   where
     test : (b : Bool) → argsFormed c ≡ b → run (view (made s c)) (viewCalls cs) ≡ run (view s) (map viewCall (cond b (c ∷ keep argsFormed cs) (keep argsFormed cs)))
     test true e = ap (λ (v : View). run v (viewCalls cs)) (made-after s w c e)
-    test false e = ap (λ (t : Ids). run (view t) (viewCalls cs)) (malformed s c (and-no s w c e) .1)
+    test false e = ap (λ (t : Ids). run (view t) (viewCalls cs)) (one-made s c (and-no s w c e))
 
 pub never-one : NeverOne
 never-one s f cs c =
@@ -294,27 +344,9 @@ never-one s f cs c =
     tested (argsFormed c)
     (λ e. ap (λ (n : ℕ). eqb n 1) (refusal-is t k c e ∙ ap (λ (v : View). apply v (viewCall c) .refusal) (is-run s cs w))
     ∙ promised .neverOne (view s) (is-start s f) (viewCalls cs) (viewCall c) ∙ ap not (args-call c e ∙ sym e))
-    (λ e. ap (λ (n : ℕ). eqb n 1) (malformed t c (and-no t k c e) .0) ∙ sym (ap not e))
+    (λ e. ap (λ (n : ℕ). eqb n 1) (one-refusal t c (and-no t k c e)) ∙ sym (ap not e))
 
 -- ---- the source sequences
-
-asked-quiet : (s : Ids) (q : Query) → issuedIn (asked s q) ≡ []
-asked-quiet s (GetScid seq) = refl
-asked-quiet s (GetDcid seq) = refl
-asked-quiet s (FindScid cid) = refl
-asked-quiet s UnusedScids = refl
-asked-quiet s UnusedDcids = refl
-asked-quiet s LowestUnusedDcidSeq = refl
-asked-quiet s NextScidToAdvertise = refl
-asked-quiet s NextDcidToRetire = refl
-asked-quiet s (CreateNewConnectionIdFrame seq) = refl
-asked-quiet s NeedSendCidControlFrames = refl
-asked-quiet s ZeroLengthScid = refl
-asked-quiet s ZeroLengthDcid = refl
-asked-quiet s ScidCount = refl
-asked-quiet s (ScidAt place) = refl
-asked-quiet s DcidCount = refl
-asked-quiet s (DcidAt place) = refl
 
 abbrev Quiet : Out → Type 0
 Quiet o = issuedBy (o .answer) ≡ []
@@ -376,7 +408,7 @@ step-issued v (MarkScidToAdvertise seq on) = sym (decided Quiet (on && leb queue
 step-issued v (MarkDcidToRetire seq on) = sym (decided Quiet (on && leb queueSlots (length (v .retire))) (λ e. refl) (λ e. refl))
 step-issued v (Reads q) = as-quiet q ∙ sym (reply-quiet v q)
   where
-    as-quiet : (q : Query) → issuedIn (askedAs q (reply v q)) ≡ []
+    as-quiet : (q : Query) → issuedIn (shaped (askedShape q) (step v (C.Ask q))) ≡ []
     as-quiet (GetScid seq) = refl
     as-quiet (GetDcid seq) = refl
     as-quiet (FindScid cid) = refl
@@ -394,39 +426,69 @@ step-issued v (Reads q) = as-quiet q ∙ sym (reply-quiet v q)
     as-quiet DcidCount = refl
     as-quiet (DcidAt place) = refl
 
--- refused with 1, nothing is issued
-no-issue : (s : Ids) (c : CodeCall) → (wellFormed s && argsFormed c) ≡ false → issuedIn (result s c) ≡ []
-no-issue s (SetInitialDcid cid token has path) e = refl
-no-issue s (SetScidLimit n) e = refl
-no-issue s (AddScid cid token advertise has path leave) e =
-    ap (λ (r : IssuedOut). issuedIn (Issued r)) (falls s (idFormed cid && tokenFormed token && pathFormed has path) e (issuedOf (step (view s) (C.AddScid cid (tokenView token) advertise (given has path) leave))) (issuedAt 1 0 s))
-no-issue s (RetireScid seq packet) e = refl
-no-issue s (AddDcid cid seq token b) e = refl
-no-issue s (MarkScidUsed seq path) e = refl
-no-issue s (MarkDcidUsed seq path) e = refl
-no-issue s (MarkScidToAdvertise seq on) e = refl
-no-issue s (MarkDcidToRetire seq on) e = refl
-no-issue s (Reads q) e = asked-quiet s q
+-- the sequence that a call of its form issues is the one that the view answers; refused with 1, it issues nothing
+module _ (s : Ids) (w : wellFormed s ≡ true) (c : CodeCall) where
+  issued-is : argsFormed c ≡ true → issuedIn (result s c) ≡ issuedBy (apply (view s) (viewCall c) .answer)
+  issued-is e =
+      let a : step (view s) (viewCall c) ≡ apply (view s) (viewCall c) = sym (step-applies s w (viewCall c) (args-call c e)) in
+      ap issuedIn (applies s c w e ∙ ap (resultAs c) (sym a)) ∙ step-issued (view s) c ∙ ap (λ (o : Out). issuedBy (o .answer)) a
 
-pub issues-is : (s : Ids) (cs : List CodeCall) → wellFormed s ≡ true → issues s cs ≡ P.issues (history (view s) (viewCalls cs))
+  no-issue : argsFormed c ≡ false → issuedIn (result s c) ≡ []
+  no-issue e = ap issuedIn (malformed s c (and-no s w c e)) ∙ at-refused (shape c) s .2
+
+pub issues-is : (s : Ids) (cs : List CodeCall) → wellFormed s ≡ true → issues s cs ≡ P.issues (P.history (view s) (viewCalls cs))
 issues-is s [] w = refl
 issues-is s (c ∷ cs) w = ap (λ (l : List ℕ). issuedIn (result s c) ++ l) (issues-is (made s c) cs (keeps-well s c w)) ∙ test (argsFormed c) refl
   where
-    test : (b : Bool) → argsFormed c ≡ b → issuedIn (result s c) ++ P.issues (history (view (made s c)) (viewCalls cs)) ≡ P.issues (history (view s) (map viewCall (cond b (c ∷ keep argsFormed cs) (keep argsFormed cs))))
-    test true e =
-        let a : step (view s) (viewCall c) ≡ apply (view s) (viewCall c) = sym (step-applies s w (viewCall c) (args-call c e)) in
-        let i : issuedIn (result s c) ≡ issuedBy (apply (view s) (viewCall c) .answer) =
-        ap issuedIn (applies s c w e ∙ ap (resultAs c) (sym a)) ∙ step-issued (view s) c ∙ ap (λ (o : Out). issuedBy (o .answer)) a in
-        ap₂ (λ (l : List ℕ) (v : View). l ++ P.issues (history v (viewCalls cs))) i (made-after s w c e)
-    test false e =
-        let n = and-no s w c e in
-        ap₂ (λ (l : List ℕ) (t : Ids). l ++ P.issues (history (view t) (viewCalls cs))) (no-issue s c n) (malformed s c n .1)
+    test : (b : Bool) → argsFormed c ≡ b → issuedIn (result s c) ++ P.issues (P.history (view (made s c)) (viewCalls cs)) ≡ P.issues (P.history (view s) (map viewCall (cond b (c ∷ keep argsFormed cs) (keep argsFormed cs))))
+    test true e = ap₂ (λ (l : List ℕ) (v : View). l ++ P.issues (P.history v (viewCalls cs))) (issued-is s w c e) (made-after s w c e)
+    test false e = ap₂ (λ (l : List ℕ) (t : Ids). l ++ P.issues (P.history (view t) (viewCalls cs))) (no-issue s w c e) (one-made s c (and-no s w c e))
 
 pub without-gap : WithoutGap
 without-gap s f cs = subst (λ (l : List ℕ). l ≡ counted 1 (length l)) (sym (issues-is s cs (fresh-well s f))) (promised .withoutGap (view s) (is-start s f) (viewCalls cs))
 
+-- a call names the same sequence to retire
+retires-is : (c : CodeCall) → P.retires (viewCall c) ≡ retires c
+retires-is (SetInitialDcid cid token has path) = refl
+retires-is (SetScidLimit n) = refl
+retires-is (AddScid cid token advertise has path leave) = refl
+retires-is (RetireScid seq packet) = refl
+retires-is (AddDcid cid seq token b) = refl
+retires-is (MarkScidUsed seq path) = refl
+retires-is (MarkDcidUsed seq path) = refl
+retires-is (MarkScidToAdvertise seq on) = refl
+retires-is (MarkDcidToRetire seq on) = refl
+retires-is (Reads q) = refl
+
+-- what is kept of the history, from the sequence that is named, what is issued and the number
+abbrev keptOf : List ℕ → Option ℕ → List ℕ → ℕ → List ℕ
+keptOf l o i n = maybe o (l ++ i) (λ (s : ℕ). cond (eqb n 1) l (P.out s l))
+
+kept-none : (l : List ℕ) (o : Option ℕ) → keptOf l o [] 1 ≡ l
+kept-none l none = append-nil l
+kept-none l (some s) = refl
+
+pub live-is : (s : Ids) (cs : List CodeCall) (l : List ℕ) → wellFormed s ≡ true → live l (history s cs) ≡ P.live l (P.history (view s) (viewCalls cs))
+live-is s [] l w = refl
+live-is s (c ∷ cs) l w = live-is (made s c) cs (logged l (record { call = c; returned = result s c })) (keeps-well s c w) ∙ test (argsFormed c) refl
+  where
+    test : (b : Bool) → argsFormed c ≡ b → P.live (logged l (record { call = c; returned = result s c })) (P.history (view (made s c)) (viewCalls cs))
+        ≡ P.live l (P.history (view s) (map viewCall (cond b (c ∷ keep argsFormed cs) (keep argsFormed cs))))
+    test true e =
+        let o : Out = apply (view s) (viewCall c) in
+        ap₂ (λ (m : List ℕ) (v : View). P.live m (P.history v (viewCalls cs)))
+        (ap₂ (λ (i : List ℕ) (n : ℕ). keptOf l (retires c) i n) (issued-is s w c e) (refusal-is s w c e)
+        ∙ ap (λ (r : Option ℕ). keptOf l r (issuedBy (o .answer)) (o .refusal)) (sym (retires-is c)))
+        (made-after s w c e)
+    test false e =
+        ap₂ (λ (m : List ℕ) (t : Ids). P.live m (P.history (view t) (viewCalls cs)))
+        (ap₂ (λ (i : List ℕ) (n : ℕ). keptOf l (retires c) i n) (no-issue s w c e) (one-refusal s c (and-no s w c e)) ∙ kept-none l (retires c))
+        (one-made s c (and-no s w c e))
+
 pub table-is-history : TableIsHistory
-table-is-history s f cs = ap sequences (is-run s cs (fresh-well s f)) ∙ promised .tableIsHistory (view s) (is-start s f) (viewCalls cs)
+table-is-history s f cs =
+    let w = fresh-well s f in
+    ap sequences (is-run s cs w) ∙ promised .tableIsHistory (view s) (is-start s f) (viewCalls cs) ∙ sym (live-is s cs (0 ∷ []) w)
 
 more : (cs ds : List CodeCall) → viewCalls (cs ++ ds) ≡ viewCalls cs ++ viewCalls ds
 more [] ds = refl
@@ -450,7 +512,9 @@ never-returns s f cs ds n i o =
 pub held : Held
 held = record {
   applies = applies;
+  complete = complete;
   malformed = malformed;
+  onlyRefuses = only-refuses;
   leavesNothing = leaves-nothing;
   keepsWell = keeps-well;
   freshOne = fresh-one;

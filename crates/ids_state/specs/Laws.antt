@@ -12,6 +12,7 @@ use borrow.Author.Tests.{not-true, eqb-true, leb-true, ltb-true}
 use Rattle.lists.specs.Defs.{nought, all, past, pairwise, after, rising, padded}
 use Rattle.lists.specs.Bools.{and-both, conj-each}
 use Rattle.lists.specs.Tests.{zero-or, all-more, all-done, past-all, past-is, nought-is, pair-start, pair-more, pair-done, pair-end, after-more}
+use Rattle.lists.specs.Every.{middle}
 use Rattle.lists.specs.Held.{getD-in}
 use Rattle.values.specs.Limits.{maxCidLen, tokenLen, maxDcidLimit, maxCidsCount, minScidLimit, tableSlots, queueSlots, maxSequence}
 use Rattle.tables.specs.Table.{zeroItem, live, seqOf}
@@ -21,12 +22,6 @@ use Rattle.ids_state.specs.Formed.{itemFormed, isZero, apart, tailZero, 
 use Rattle.ids_state.specs.declared.state.Ids.{Ids}
 
 -- ---- what is zero, and what two items have in common
-
-middle : (a b c d : Bool) → ((a && b) && (c && d)) ≡ ((a && c) && (b && d))
-middle false b c d = refl
-middle true true c d = refl
-middle true false true d = refl
-middle true false false d = refl
 
 marks : (a b c d : Bool) → not (a || b || c || d) ≡ ((not b && not a) && (not d && not c))
 marks true true c d = refl

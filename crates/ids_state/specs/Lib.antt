@@ -1,3 +1,4 @@
 pub mod Formed
 pub mod Laws
 pub mod Broken
+pub mod Conjuncts

@@ -4,6 +4,7 @@ use mathlib.Core.List.{List, [], _∷_}
 use mathlib.Core.Bool.{Bool, true, false, _&&_, and-true}
 use lib.Dec.{leb}
 use Rattle.lists.specs.Defs.{all, every, nought, pairwise, past}
+use Rattle.lists.specs.Every.{all-and, all-same}
 use Rattle.values.specs.Limits.{maxPathChalsRecv, maxPathChalsSent, maxPaths}
 use Rattle.values.specs.Address.{pairFormed}
 use Rattle.challenges.specs.Challenges.{standing}
@@ -48,20 +49,6 @@ conjuncts t =
     ∷ []
 
 -- ---- they are all
-
-middle : (a b c d : Bool) → ((a && b) && (c && d)) ≡ ((a && c) && (b && d))
-middle false b c d = refl
-middle true true c d = refl
-middle true false true d = refl
-middle true false false d = refl
-
-all-and : {A : Type 0} (p q : A → Bool) (l : List A) → all (λ (x : A). p x && q x) l ≡ (all p l && all q l)
-all-and p q [] = refl
-all-and p q (x ∷ xs) = ap (λ (b : Bool). (p x && q x) && b) (all-and p q xs) ∙ middle (p x) (q x) (all p xs) (all q xs)
-
-all-same : {A : Type 0} (p q : A → Bool) → ((x : A) → p x ≡ q x) → (l : List A) → all p l ≡ all q l
-all-same p q h [] = refl
-all-same p q h (x ∷ xs) = ap₂ _&&_ (h x) (all-same p q h xs)
 
 -- a: 3; b, c: 4; d, f: 5; i: 6; g: 7; e, h: 8
 order : (a b c d e f g h i : Bool) → (((((a && b) && c) && (d && e)) && (f && (g && h))) && i) ≡ (a && ((b && c) && ((d && f) && (i && (g && (e && h))))))

@@ -1,10 +1,11 @@
 -- A state that is well formed, and states that each break one conjunct and no other, by computation.
-use Prim.Native.Nat.{ℕ, suc, _-_, _^_}
+use Prim.Native.Nat.{ℕ, _-_, _^_}
 use mathlib.Core.Path.{_≡_, refl}
 use mathlib.Core.List.{List, [], _∷_}
-use mathlib.Core.Bool.{Bool, true, false, cond}
+use mathlib.Core.Bool.{Bool, true, false}
 use lib.ListN.{length, replicate}
 use Rattle.lists.specs.Defs.{padded}
+use Rattle.lists.specs.Every.{failing}
 use Rattle.values.specs.declared.address.Address.{Address}
 use Rattle.values.specs.declared.address.FourTuple.{FourTuple}
 use Rattle.challenges.specs.Challenges.{receivedOf, sentOf, zeroChallenge}
@@ -68,13 +69,9 @@ with r s l = state 4 (path (pair 1) true 3 r s l true ∷ [])
 abbrev top : ℕ
 top = 2 ^ 63
 
--- the numbers of the conjuncts that do not hold
-abbrev numbered : ℕ → List Bool → List ℕ
-numbered n [] = []
-numbered n (b ∷ bs) = cond b (numbered (suc n) bs) (n ∷ numbered (suc n) bs)
-
+-- it is not well formed, and this conjunct alone does not hold
 abbrev Breaks : ℕ → Paths → Type 0
-Breaks n t = (wellFormed t ≡ false) × (numbered 1 (conjuncts t) ≡ n ∷ [])
+Breaks n t = (wellFormed t ≡ false) × (failing 1 (conjuncts t) ≡ n ∷ [])
 
 -- ---- well formed: every limit is reached, a pair is listed once and stands unlisted too, a rank is any number
 
