@@ -368,31 +368,32 @@ pub record Conforms : Type 0 where
 abbrev pub cid : ℕ → ConnectionId
 cid n = cidNew (n ∷ [])
 
-abbrev pub token : List ℕ
-token = replicate tokenLen 9
+-- the token of that ID: another ID has another
+abbrev pub token : ℕ → List ℕ
+token n = replicate tokenLen n
 
 abbrev pub ids : ℕ → View
 ids n = fresh n (cid 1) 0 none
 
 abbrev pub dcid : ℕ → ℕ → ℕ → NewConnectionId
-dcid c s b = record { cid = cid c; seq = s; token = token; retirePriorTo = b }
+dcid c s b = record { cid = cid c; seq = s; token = token c; retirePriorTo = b }
 
 abbrev pub initialDcid : ℕ → Call
-initialDcid c = SetInitialDcid (cid c) (some token) none
+initialDcid c = SetInitialDcid (cid c) (some (token c)) none
 
 abbrev pub scid : ℕ → Bool → Issue
-scid c leave = record { cid = cid c; token = some token; advertise = false; path = none; leave = leave }
+scid c leave = record { cid = cid c; token = some (token c); advertise = false; path = none; leave = leave }
 
 abbrev pub retired : ℕ → RetireConnectionId
 retired s = record { seq = s; packet = cid 1 }
 
 -- an ID of these bytes, with sequence 0
 abbrev pub newBytes : List ℕ → Call
-newBytes s = AddDcid (cidNew s) 0 token 0
+newBytes s = AddDcid (cidNew s) 0 (token 1) 0
 
 -- after add_scid(02) with advertise
 abbrev pub advertised : View
-advertised = run (ids 1) (AddScid (cid 2) (some token) true none false ∷ [])
+advertised = run (ids 1) (AddScid (cid 2) (some (token 2)) true none false ∷ [])
 
 -- after add_scid(02), add_scid(03) with leave, add_scid(04) with leave: sequences 0, 1, 2, own Retire Prior To 2; and after retire_scid(2, 01) too
 abbrev pub pushed : View
@@ -424,7 +425,7 @@ pub record Differs : Type 0 where
   -- D10: the mark outlives the item
   pub frameForRetired : DiffersAt retireId NoFrameForRetired advertised (retired 1)
   -- D11: an empty ID is taken
-  pub takesEmpty : DiffersAt newId LengthInRange (ids 1) (record { cid = zeroId; seq = 0; token = token; retirePriorTo = 0 })
+  pub takesEmpty : DiffersAt newId LengthInRange (ids 1) (record { cid = zeroId; seq = 0; token = token 0; retirePriorTo = 0 })
   -- D12: after the limit fell, one step of Retire Prior To is not enough
   pub overPeerLimit : DiffersAt issueId WithinPeerLimit (run (ids 1) (SetScidLimit 3 ∷ issueId (scid 2 false) ∷ issueId (scid 3 false) ∷ SetScidLimit 2 ∷ [])) (scid 4 true)
   -- D13: no ID can be issued, without leave and with leave
@@ -447,6 +448,6 @@ pub record Differs : Type 0 where
   -- D21 (5.1): an ID can be issued twice
   pub issuedTwice : DiffersAt issueId IssuedOnce (ids 1) (scid 1 false)
   -- D22: an empty ID can be issued
-  pub issuesEmpty : DiffersAt issueId IssuesLength (ids 1) (record { cid = zeroId; token = some token; advertise = false; path = none; leave = false })
+  pub issuesEmpty : DiffersAt issueId IssuesLength (ids 1) (record { cid = zeroId; token = some (token 0); advertise = false; path = none; leave = false })
   -- D23 (18.2): a limit below 2 is raised to 2
   pub lowLimit : DiffersAt SetScidLimit LimitBelowTwo (ids 1) 0
