@@ -1,9 +1,9 @@
 -- RFC 9000, sections 5.1.1, 5.1.2, 19.15 and 19.16, as rules on the view before, what came, and what comes of it: which of them the calls meet, which
 -- they meet but for a listed case, and where they differ. D1 to D23 are rows of docs/DIFFERENCES.md. The proofs are in RfcProof.antt.
-use Prim.Native.Nat.{ℕ, _*_, _≤_, _<_}
+use Prim.Native.Nat.{ℕ, _+_, _*_, _≤_, _<_}
 use mathlib.Core.Path.{_≡_}
 use mathlib.Core.List.{List, [], _∷_, map}
-use mathlib.Core.Bool.{Bool, true, false, not, _&&_, _||_}
+use mathlib.Core.Bool.{Bool, true, false, cond, not, _&&_, _||_}
 use mathlib.Core.Option.{Option, none, some}
 use lib.ListN.{length, replicate}
 use lib.Dec.{eqb, leb, ltb}
@@ -13,8 +13,8 @@ use Rattle.values.specs.Cid.{cidNew, zeroId, sameId}
 use Rattle.values.specs.Limits.{maxCidLen, tokenLen, minScidLimit, maxCidsCount, maxSequence, queueSlots, retireFactor}
 use Rattle.values.specs.Refusals.{wireCode, CONNECTION-ID-LIMIT-ERROR, PROTOCOL-VIOLATION}
 use Rattle.ids_rules.specs.Values.{Item, seqOf, hasSeq, hasCid, from, below, clashes, repeats}
-use Rattle.ids_rules.specs.View.{View, Out, Issued, Retired, Perhaps, Frame, accepted}
-use Rattle.ids_rules.specs.Steps.{fresh, sole, without, lowestFrom, tooMany}
+use Rattle.ids_rules.specs.View.{View, Out, Issued, Retired, Perhaps, Frame, accepted, dcap}
+use Rattle.ids_rules.specs.Steps.{fresh, sole, without, lowestFrom}
 use Rattle.ids_rules.specs.Well.{well}
 use Rattle.ids_rules.specs.Calls.{Call, SetInitialDcid, SetScidLimit, AddScid, RetireScid, AddDcid, MarkScidUsed, MarkDcidUsed, MarkScidToAdvertise, MarkDcidToRetire, Ask, callFormed, apply, run}
 use Rattle.ids_rules.specs.Calls.{Query, LowestUnusedDcidSeq, CreateNewConnectionIdFrame}
@@ -69,6 +69,38 @@ itself c = c
 
 abbrev pub itemOf : NewConnectionId → Item
 itemOf f = record { cid = f .cid; seq = f .seq; token = some (f .token); path = none }
+
+-- ---- a NEW_CONNECTION_ID frame, beside what is held
+
+-- the table holds its ID or its sequence; it holds them and the token in one item: a repeat
+abbrev pub held : View → NewConnectionId → Bool
+held v f = any (λ (y : Item). clashes y (itemOf f)) (v .dcids)
+
+abbrev pub repeated : View → NewConnectionId → Bool
+repeated v f = any (λ (y : Item). repeats y (itemOf f)) (v .dcids)
+
+-- its Retire Prior To is an increased one; its sequence is below an earlier one
+abbrev pub increases : View → NewConnectionId → Bool
+increases v f = ltb (v .largest) (f .retirePriorTo)
+
+abbrev pub comesLate : View → NewConnectionId → Bool
+comesLate v f = ltb (f .seq) (v .largest)
+
+-- the held IDs that an increased Retire Prior To leaves active
+abbrev pub kept : View → NewConnectionId → List Item
+kept v f = cond (increases v f) (keep (from (f .retirePriorTo)) (v .dcids)) (v .dcids)
+
+-- how many IDs are then in need of retirement: those that wait, those that an increased Retire Prior To names, and the frame's own, if it comes late and does not wait yet
+abbrev pub inNeed : View → NewConnectionId → ℕ
+inNeed v f = length (v .retire) + cond (increases v f) (length (keep (below (f .retirePriorTo)) (v .dcids))) 0 + cond (comesLate v f && not (has (f .seq) (v .retire))) 1 0
+
+-- 5.1.2 leaves the limit of these to the endpoint: 4 x limit
+abbrev pub retireLimit : View → ℕ
+retireLimit v = retireFactor * v .dlimit
+
+-- the frame is an error for what it says, or gives what is held
+abbrev pub otherwise : View → NewConnectionId → Bool
+otherwise v f = v .zeroDcid || (held v f || ltb (f .seq) (f .retirePriorTo))
 
 -- ---- errors (20.1): the call is refused, and the refusal has this code
 
@@ -137,13 +169,21 @@ WithinPeerLimit v i o = o .refusal ≡ 0 → active (o .view) ≤ o .view .slimi
 abbrev pub excess : View → Issue → Bool
 excess v i = ltb (v .slimit) (active v)
 
--- after a frame there are at most limit IDs; more MUST be a CONNECTION_ID_LIMIT_ERROR
+-- after adding and retiring, more active IDs than the limit MUST be a CONNECTION_ID_LIMIT_ERROR: where a frame is no error, there are at most limit
 abbrev pub WithinLimit : Rule NewConnectionId
 WithinLimit v f o = o .refusal ≡ 0 → length (o .view .dcids) ≤ v .dlimit
 
--- the exception: the table holds as many as the limit already
-abbrev pub atLimit : View → NewConnectionId → Bool
-atLimit v f = leb (v .dlimit) (length (v .dcids))
+-- the exception: as many as the limit are kept already; or a repeat leaves all in place, its Retire Prior To unread, and they are more
+abbrev pub filled : View → NewConnectionId → Bool
+filled v f = leb (v .dlimit) (length (kept v f)) || (repeated v f && ltb (v .dlimit) (length (v .dcids)))
+
+-- and where the frame adds an ID to as many as the limit, and nothing else is wrong with it, the error is this one
+abbrev pub OverLimit : Rule NewConnectionId
+OverLimit v f o = otherwise v f ≡ false → comesLate v f ≡ false → inNeed v f ≤ retireLimit v → v .dlimit ≤ length (kept v f) → Closes CONNECTION-ID-LIMIT-ERROR o
+
+-- the exception: fewer than 2 x limit - 1 are kept
+abbrev pub unfilled : View → NewConnectionId → Bool
+unfilled v f = ltb (length (kept v f)) (dcap (v .dlimit))
 
 -- SHOULD supply a new ID when the peer retires one: where fewer are active than the peer allows, one can be issued
 abbrev pub Supplies : Rule Issue
@@ -185,21 +225,36 @@ LowerAreRetired v f o = v .largest < f .retirePriorTo → o .refusal ≡ 0
     → (all (from (f .retirePriorTo)) (o .view .dcids) ≡ true)
     × ((s : ℕ) → has s (map seqOf (v .dcids)) ≡ true → s < f .retirePriorTo → has s (o .view .retire) ≡ true)
 
--- SHOULD limit the number of IDs retired and not acknowledged: a frame that lengthens the queue leaves at most 4 x limit
-abbrev pub QueueLimited : Rule NewConnectionId
-QueueLimited v f o = o .refusal ≡ 0 → length (v .retire) < length (o .view .retire) → length (o .view .retire) ≤ retireFactor * v .dlimit
+-- SHOULD limit the number of IDs retired and not acknowledged, of which the view has those whose frame waits: whatever is called, if it is no error, at most so many wait
+abbrev pub QueueLimited : Rule Call
+QueueLimited v c o = o .refusal ≡ 0 → length (o .view .retire) ≤ retireLimit v
 
--- SHOULD track at least twice the limit: up to that many, a frame is no error for it
+-- the exception: the host marks one; or more waited before, by such marks or by going on after the error
+abbrev pub marking : View → Call → Bool
+marking v (SetInitialDcid cid token path) = false
+marking v (SetScidLimit n) = false
+marking v (AddScid cid token advertise path leave) = false
+marking v (RetireScid s packet) = false
+marking v (AddDcid cid s token b) = false
+marking v (MarkScidUsed s p) = false
+marking v (MarkDcidUsed s p) = false
+marking v (MarkScidToAdvertise s on) = false
+marking v (MarkDcidToRetire s on) = on
+marking v (Ask q) = false
+
+abbrev pub crowded : {A : Type 0} → View → A → Bool
+crowded v a = ltb (retireLimit v) (length (v .retire))
+
+abbrev pub unlimited : View → Call → Bool
+unlimited v c = marking v c || crowded v c
+
+-- SHOULD track at least twice the limit: up to that many in need of retirement, a frame is an error only for too many active IDs
 abbrev pub TracksTwice : Rule NewConnectionId
-TracksTwice v f o = length (o .view .retire) ≤ 2 * v .dlimit → Closes PROTOCOL-VIOLATION o → ⊥
+TracksTwice v f o = inNeed v f ≤ 2 * v .dlimit → (Closes CONNECTION-ID-LIMIT-ERROR o → ⊥) → o .refusal ≡ 0
 
--- the exception: the frame is an error for another reason, or a repeat
-abbrev pub otherwise : View → NewConnectionId → Bool
-otherwise v f = v .zeroDcid || (any (λ (y : Item). clashes y (itemOf f)) (v .dcids) || ltb (f .seq) (f .retirePriorTo))
-
--- more to retire than one's limit MAY be a CONNECTION_ID_LIMIT_ERROR: where it is an error, of this code
+-- more in need of retirement than one's own limit MAY be an error of this code, CONNECTION_ID_LIMIT_ERROR: here it is an error, but where more waited before
 abbrev pub TooManyToRetire : ℕ → Rule NewConnectionId
-TooManyToRetire code v f o = tooMany (o .view) ≡ true → (o .refusal ≡ 0 → ⊥) → Closes code o
+TooManyToRetire code v f o = otherwise v f ≡ false → retireLimit v < inNeed v f → Closes code o
 
 -- an ID MUST NOT be forgotten without being retired: by any call
 abbrev pub NotForgotten : Rule Call
@@ -242,7 +297,7 @@ ZeroLengthDestination v f o = v .zeroDcid ≡ true → Closes PROTOCOL-VIOLATION
 
 -- the same frame again MUST NOT be an error: where the table holds what it gave
 abbrev pub SameFrameAgain : Rule NewConnectionId
-SameFrameAgain v f o = v .zeroDcid ≡ false → any (λ (y : Item). repeats y (itemOf f)) (v .dcids) ≡ true → o ≡ accepted (Retired []) v
+SameFrameAgain v f o = v .zeroDcid ≡ false → repeated v f ≡ true → o ≡ accepted (Retired []) v
 
 -- and at any later time, whatever calls came between
 abbrev pub SameFrameLater : Rule NewConnectionId
@@ -250,12 +305,7 @@ SameFrameLater v f o = (w : View) (cs : List Call) → apply w (newId f) .refusa
 
 -- an ID with another token or sequence, or a sequence with another ID, MAY be a PROTOCOL_VIOLATION: here it is
 abbrev pub Conflict : Rule NewConnectionId
-Conflict v f o = any (λ (y : Item). clashes y (itemOf f)) (v .dcids) ≡ true → any (λ (y : Item). repeats y (itemOf f)) (v .dcids) ≡ false
-    → Closes PROTOCOL-VIOLATION o × (o .view ≡ v)
-
--- the exception of what follows: the table holds the ID or the sequence already, and the frame is taken for a repeat, or refused
-abbrev pub held : View → NewConnectionId → Bool
-held v f = any (λ (y : Item). clashes y (itemOf f)) (v .dcids)
+Conflict v f o = held v f ≡ true → repeated v f ≡ false → Closes PROTOCOL-VIOLATION o × (o .view ≡ v)
 
 -- sending: Retire Prior To MUST be at most the sequence, in the frame of the ID just issued
 abbrev pub IssuedAboveOwn : Rule Issue
@@ -336,17 +386,19 @@ pub record Conforms : Type 0 where
   pub increasesByOne : WithoutGap
   pub acceptedUntilRetired : MetUnless itself retiring AcceptedUntilRetired
   pub othersStay : Met retireId OthersStay
-  -- but for D12, D2 and D13
+  -- but for D12, D2 (and D5), D2 and D13
   pub withinPeerLimit : MetUnless issueId excess WithinPeerLimit
-  pub withinLimit : MetUnless newId atLimit WithinLimit
+  pub withinLimit : MetUnless newId filled WithinLimit
+  pub overLimit : MetUnless newId unfilled OverLimit
   pub supplies : MetUnless issueId noRoom Supplies
   pub totalLimited : Met issueId TotalLimited
   pub issuanceLimited : Met SetScidLimit IssuanceLimited
   pub zeroLengthIssues : Met issueId ZeroLengthIssues
-  -- 5.1.2; but for D5 and D14
-  pub lowerAreRetired : MetUnless newId held LowerAreRetired
-  pub queueLimited : Met newId QueueLimited
+  -- 5.1.2; but for D5 and D14, and with the code and the marks of D7
+  pub lowerAreRetired : MetUnless newId repeated LowerAreRetired
+  pub queueLimited : MetUnless itself unlimited QueueLimited
   pub tracksTwice : MetUnless newId otherwise TracksTwice
+  pub tooManyToRetire : MetUnless newId crowded (TooManyToRetire PROTOCOL-VIOLATION)
   pub notForgotten : MetUnless itself initial NotForgotten
   -- 19.15
   pub zeroLengthDestination : Met newId ZeroLengthDestination
@@ -354,9 +406,9 @@ pub record Conforms : Type 0 where
   pub conflict : Met newId Conflict
   pub issuedAboveOwn : Met issueId IssuedAboveOwn
   -- with the code of D1, and but for D6
-  pub aboveSequence : MetUnless newId held (AboveSequence PROTOCOL-VIOLATION)
+  pub aboveSequence : MetUnless newId repeated (AboveSequence PROTOCOL-VIOLATION)
   pub ignores : Met newId Ignores
-  pub lateIsRetired : MetUnless newId held LateIsRetired
+  pub lateIsRetired : MetUnless newId repeated LateIsRetired
   -- 19.16; but for D17 and D16
   pub tokenEnds : Met retireId TokenEnds
   pub notIssued : Met retireId NotIssued
@@ -407,6 +459,7 @@ pub record Differs : Type 0 where
   pub encoding : DiffersAt newId (AboveSequence FRAME-ENCODING-ERROR) (ids 1) (dcid 2 0 1)
   -- D2: 2 x limit - 1
   pub overLimit : DiffersAt newId WithinLimit (run (ids 2) (newId (dcid 2 0 0) ∷ newId (dcid 3 1 0) ∷ [])) (dcid 4 2 0)
+  pub limitNoError : DiffersAt newId OverLimit (run (ids 2) (newId (dcid 2 0 0) ∷ newId (dcid 3 1 0) ∷ [])) (dcid 4 2 0)
   -- D3: a sequence already queued comes back to the table
   pub comesBack : DiffersAt newId LateIsNotKept (run (ids 2) (initialDcid 2 ∷ newId (dcid 3 1 1) ∷ [])) (dcid 2 0 0)
   -- D4: INTERNAL_ERROR for PROTOCOL_VIOLATION
@@ -418,6 +471,8 @@ pub record Differs : Type 0 where
   -- D7: PROTOCOL_VIOLATION for CONNECTION_ID_LIMIT_ERROR
   pub tooManyToRetire : DiffersAt newId (TooManyToRetire CONNECTION-ID-LIMIT-ERROR)
       (run (ids 1) (newId (dcid 5 5 5) ∷ newId (dcid 6 0 0) ∷ newId (dcid 7 1 0) ∷ newId (dcid 8 2 0) ∷ newId (dcid 9 3 0) ∷ [])) (dcid 10 4 0)
+  -- and marks are not held against the limit
+  pub manyMarks : DiffersAt itself QueueLimited (run (ids 1) (replicate 4 (MarkDcidToRetire 0 true))) (MarkDcidToRetire 0 true)
   -- D8: a frame made later may ask to retire its own ID: sequence 1, Retire Prior To 2
   pub frameOfRetired : DiffersAt makeFrame FrameAboveOwn pushed 1
   -- D9: a sequence that was issued and not yet sent can be retired

@@ -5,7 +5,7 @@ use mathlib.Core.List.{List, [], _∷_, _++_, map}
 use mathlib.Core.Bool.{Bool, true, false, cond, not, _&&_, _||_, or-true}
 use mathlib.Core.Option.{Option, none, some}
 use native.Mathlib.Omega.{arith}
-use lib.ListN.{length, length-append}
+use lib.ListN.{length, length-append, length-map}
 use lib.Dec.{eqb, leb, ltb}
 use borrow.Author.Tests.{leb-true, leb-false, ltb-true, ltb-false, eqb-true, eqb-false, le-leb, lt-ltb, le-ltb, lt-leb, eq-eqb, not-true}
 use Rattle.lists.specs.Defs.{present, first, keep, any, least, less, has}
@@ -15,10 +15,10 @@ use Rattle.values.specs.declared.cid.ConnectionId.{ConnectionId}
 use Rattle.values.specs.Limits.{maxSequence, queueSlots, retireFactor}
 use Rattle.values.specs.Cid.{sameId}
 use Rattle.values.specs.Laws.{same-id-is}
-use Rattle.values.specs.Refusals.{PROTOCOL-VIOLATION}
+use Rattle.values.specs.Refusals.{CONNECTION-ID-LIMIT-ERROR, PROTOCOL-VIOLATION}
 use Rattle.ids_rules.specs.Values.{Item, onPath, seqOf, hasSeq, hasCid, from, below, clashes, repeats}
 use Rattle.values.specs.declared.used.UsedSeq.{UsedSeq}
-use Rattle.ids_rules.specs.View.{View, Nothing, Issued, Out, dcap, withRetire}
+use Rattle.ids_rules.specs.View.{View, Nothing, Issued, Out, refused, dcap, withRetire}
 use Rattle.ids_rules.specs.Steps.{lowestFrom, sole, without, tooMany, queueLate, raise, append, lowered}
 use Rattle.ids_rules.specs.Ends.{Raised, spare, lifts, AddScidEnds, refuses, raises, issues, RetireScidEnds, unissued, only as only-one, absent, out, frees, AddDcidEnds, rejects, again, late4, late, lowers, renews, adds, queued, add-scid-ends, retire-scid-ends, add-dcid-ends}
 use Rattle.ids_rules.specs.Well.{well, distinct}
@@ -26,8 +26,8 @@ use Rattle.ids_rules.specs.Calls.{Call, SetInitialDcid, SetScidLimit, Ad
 use Rattle.ids_rules.specs.Laws.{any-moved, decided, optioned, never, or-neither, all-append, all-kept, first-none, first-some}
 use Rattle.ids_rules.specs.Kept.{Well, well-is, raised-le}
 use Rattle.ids_rules.specs.Once.{without-gap, map-used, begun}
-use Rattle.ids_rules.specs.Rfc.{NewConnectionId, RetireConnectionId, Issue, newId, retireId, issueId, initialId, itself, itemOf, Closes, Rule, Met, MetUnless, held, atLimit, excess, noRoom, otherwise, only, noneLeft, active, initial, retiring}
-use Rattle.ids_rules.specs.Rfc.{InitialIsZero, AcceptedUntilRetired, OthersStay, WithinPeerLimit, WithinLimit, Supplies, TotalLimited, IssuanceLimited, ZeroLengthIssues, LowerAreRetired, QueueLimited, TracksTwice, NotForgotten}
+use Rattle.ids_rules.specs.Rfc.{NewConnectionId, RetireConnectionId, Issue, newId, retireId, issueId, initialId, itself, itemOf, Closes, Rule, Met, MetUnless, held, repeated, increases, comesLate, kept, inNeed, retireLimit, filled, unfilled, excess, noRoom, marking, crowded, unlimited, otherwise, only, noneLeft, active, initial, retiring}
+use Rattle.ids_rules.specs.Rfc.{InitialIsZero, AcceptedUntilRetired, OthersStay, WithinPeerLimit, WithinLimit, OverLimit, Supplies, TotalLimited, IssuanceLimited, ZeroLengthIssues, LowerAreRetired, QueueLimited, TracksTwice, TooManyToRetire, NotForgotten}
 use Rattle.ids_rules.specs.Rfc.{ZeroLengthDestination, SameFrameAgain, Conflict, IssuedAboveOwn, AboveSequence, Ignores, LateIsRetired, TokenEnds, NotIssued, OwnPacket, GivenIsRetired, Conforms, Differs, cid, token, ids, dcid}
 
 -- a call with arguments of their form, on a well-formed view, is its step
@@ -108,12 +108,19 @@ first-passes p q (x ∷ l) y e k = let w = or-neither (q x) (any q l) k in test 
     test true e k i = let z : x ≡ y = cc in rw (← z) k
     test false e k i = i e
 
+-- a frame that no item repeats is refused with nothing changed, or the table holds neither its ID nor its sequence
+unrepeated : (P : Out → Type 0) (v : View) (f : NewConnectionId) → repeated v f ≡ false → P (refused 4 v) → (held v f ≡ false → P (step v (newId f))) → P (step v (newId f))
+unrepeated P v f n r k = test (held v f) refl
+  where
+    test : (b : Bool) → held v f ≡ b → P (step v (newId f))
+    test true c =
+        decided P (v .zeroDcid) (λ e. r) (λ e.
+        optioned P (first (λ (y : Item). clashes y (itemOf f)) (v .dcids)) (λ e. never (sym c ∙ first-none (λ (y : Item). clashes y (itemOf f)) (v .dcids) e))
+        (λ y e. rw (first-passes (λ (y : Item). clashes y (itemOf f)) (λ (y : Item). repeats y (itemOf f)) (v .dcids) y e n) r))
+    test false c = k c
+
 conflicts : Met newId Conflict
-conflicts = met newId Conflict (λ v f h c n.
-    decided (λ (o : Out). Closes PROTOCOL-VIOLATION o × (o .view ≡ v)) (v .zeroDcid) (λ e. ((refl, refl), refl)) (λ e.
-    optioned (λ (o : Out). Closes PROTOCOL-VIOLATION o × (o .view ≡ v)) (first (λ (y : Item). clashes y (itemOf f)) (v .dcids))
-    (λ e. never (sym c ∙ first-none (λ (y : Item). clashes y (itemOf f)) (v .dcids) e))
-    (λ y e. rw (first-passes (λ (y : Item). clashes y (itemOf f)) (λ (y : Item). repeats y (itemOf f)) (v .dcids) y e n) ((refl, refl), refl))))
+conflicts = met newId Conflict (λ v f h c n. unrepeated (λ (o : Out). Closes PROTOCOL-VIOLATION o × (o .view ≡ v)) v f n ((refl, refl), refl) (λ e. never (sym c ∙ e)))
 
 -- ---- where the table does not hold the ID or the sequence
 
@@ -124,12 +131,13 @@ ends v f = add-dcid-ends (f .cid) (f .seq) (f .token) (f .retirePriorTo) v
 issue-ends : (v : View) (i : Issue) → AddScidEnds (record { cid = i .cid; seq = v .next; token = i .token; path = i .path }) (i .advertise) v (step v (issueId i))
 issue-ends v i = add-scid-ends (i .cid) (i .token) (i .advertise) (i .path) v (i .leave)
 
-above : MetUnless newId held (AboveSequence PROTOCOL-VIOLATION)
-above = met-unless newId (AboveSequence PROTOCOL-VIOLATION) held (λ v f h n k.
+above : MetUnless newId repeated (AboveSequence PROTOCOL-VIOLATION)
+above = met-unless newId (AboveSequence PROTOCOL-VIOLATION) repeated (λ v f h n k.
     let P : Out → Type 0 = Closes PROTOCOL-VIOLATION in
+    unrepeated P v f n (refl, refl) (λ c.
     decided P (v .zeroDcid) (λ e. (refl, refl)) (λ e.
     optioned P (first (λ (y : Item). clashes y (itemOf f)) (v .dcids)) (λ e. rw (lt-ltb (f .seq) (f .retirePriorTo) k) (refl, refl))
-    (λ y e. never (sym (first-some (λ (y : Item). clashes y (itemOf f)) (v .dcids) y e) ∙ n))))
+    (λ y e. never (sym (first-some (λ (y : Item). clashes y (itemOf f)) (v .dcids) y e) ∙ c)))))
 
 ignored : Met newId Ignores
 ignored v f h c k l =
@@ -196,14 +204,30 @@ lower-retired v f (adds n u q r) c l z = absurd (omega arith)
 
 -- ---- the destination limit
 
-limit-within : (v : View) (f : NewConnectionId) {o : Out} → AddDcidEnds (itemOf f) (f .retirePriorTo) v o → length (v .dcids) < v .dlimit → WithinLimit v f o
-limit-within v f (rejects n k) l z = absurd (omega arith)
-limit-within v f (again e) l z = omega arith
-limit-within v f (late4 n k m) l z = absurd (omega arith)
-limit-within v f (late n k m t) l z = omega arith
-limit-within v f (lowers m k n u q) l z = absurd (omega arith)
-limit-within v f (renews n u q r t) l z = simp length-append (omega (arith, length-keep (from (f .retirePriorTo)) (v .dcids)))
-limit-within v f (adds n u q r) l z = simp length-append (omega arith)
+-- what is kept, where Retire Prior To is increased and where it is not
+kept-from : (v : View) (f : NewConnectionId) → v .largest < f .retirePriorTo → kept v f ≡ keep (from (f .retirePriorTo)) (v .dcids)
+kept-from v f k = rw (lt-ltb (v .largest) (f .retirePriorTo) k)
+
+kept-all : (v : View) (f : NewConnectionId) → f .retirePriorTo ≤ v .largest → kept v f ≡ v .dcids
+kept-all v f k = rw (le-ltb (v .largest) (f .retirePriorTo) k)
+
+limit-within : (v : View) (f : NewConnectionId) {o : Out} → AddDcidEnds (itemOf f) (f .retirePriorTo) v o → length (kept v f) < v .dlimit → (held v f ≡ true → length (v .dcids) ≤ v .dlimit) → WithinLimit v f o
+limit-within v f (rejects n k) l g z = absurd (omega arith)
+limit-within v f (again e) l g z = g e
+limit-within v f (late4 n k m) l g z = absurd (omega arith)
+limit-within v f (late n k m t) l g z = omega (arith, ap length (kept-all v f (omega (arith, n .fits))))
+limit-within v f (lowers m k n u q) l g z = absurd (omega arith)
+limit-within v f (renews n u q r t) l g z = simp length-append (omega (arith, ap length (kept-from v f u)))
+limit-within v f (adds n u q r) l g z = simp length-append (omega (arith, ap length (kept-all v f u)))
+
+limited : MetUnless newId filled WithinLimit
+limited = met-unless newId WithinLimit filled (λ v f h e.
+    let u = or-neither (leb (v .dlimit) (length (kept v f))) _ e in
+    test v f (leb-false (v .dlimit) (length (kept v f)) (u .0)) (repeated v f) refl (u .1))
+  where
+    test : (v : View) (f : NewConnectionId) → length (kept v f) < v .dlimit → (b : Bool) → repeated v f ≡ b → (b && ltb (v .dlimit) (length (v .dcids))) ≡ false → WithinLimit v f (step v (newId f))
+    test v f l true r e = limit-within v f (ends v f) l (λ c. ltb-false (v .dlimit) (length (v .dcids)) e)
+    test v f l false r e = unrepeated (WithinLimit v f) v f r (λ z. absurd (omega arith)) (λ c. limit-within v f (ends v f) l (λ t. never (sym t ∙ c)))
 
 -- ---- nothing is forgotten
 
@@ -458,45 +482,142 @@ total-limited v i (issues r t n p l q) m e = let z : v .next ≡ m = cc in omega
 
 -- ---- the retire queue
 
-queue-limited : (v : View) (f : NewConnectionId) {o : Out} → AddDcidEnds (itemOf f) (f .retirePriorTo) v o → QueueLimited v f o
-queue-limited v f (rejects n k) z l = absurd (omega arith)
-queue-limited v f (again e) z l = absurd (omega arith)
-queue-limited v f (late4 n k m) z l = absurd (omega arith)
-queue-limited v f (late n k m t) z l = ltb-false _ _ t
-queue-limited v f (lowers m k n u q) z l = absurd (omega arith)
-queue-limited v f (renews n u q r t) z l = ltb-false _ _ t
-queue-limited v f (adds n u q r) z l = absurd (omega arith)
+-- no call but a frame and the host's mark makes it longer
+module _ (v : View) (m : length (v .retire) ≤ retireLimit v) where
+  abbrev Limited : Out → Type 0
+  Limited o = o .refusal ≡ 0 → length (o .view .retire) ≤ retireLimit v
+
+  add-limited : {x : Item} {advertise : Bool} {o : Out} → AddScidEnds x advertise v o → Limited o
+  add-limited (refuses n k) z = m
+  add-limited (raises n r k t) z = m
+  add-limited (issues r t n p l a) z = m
+
+  retire-limited : {s : ℕ} {packet : ConnectionId} {o : Out} → RetireScidEnds s packet v o → Limited o
+  retire-limited (unissued k) z = m
+  retire-limited (only-one e) z = m
+  retire-limited (absent e) z = m
+  retire-limited (out n k a e) z = m
+  retire-limited (frees x r a e l) z = m
+
+  dcid-limited : {x : Item} {b : ℕ} {o : Out} → AddDcidEnds x b v o → Limited o
+  dcid-limited (rejects n k) z = m
+  dcid-limited (again e) z = m
+  dcid-limited (late4 n k l) z = absurd (omega arith)
+  dcid-limited (late n k l t) z = ltb-false _ _ t
+  dcid-limited (lowers n k w u q) z = absurd (omega (arith, k .low))
+  dcid-limited (renews n u q r t) z = ltb-false _ _ t
+  dcid-limited (adds n u q r) z = m
+
+  step-limited : (c : Call) → marking v c ≡ false → Limited (step v c)
+  step-limited (SetInitialDcid cid token path) i = λ z. m
+  step-limited (SetScidLimit n) i = λ z. m
+  step-limited (AddScid cid token advertise path leave) i = add-limited (add-scid-ends cid token advertise path v leave)
+  step-limited (RetireScid s packet) i = retire-limited (retire-scid-ends s packet v)
+  step-limited (AddDcid cid s token b) i = dcid-limited (add-dcid-ends cid s token b v)
+  step-limited (MarkScidUsed s p) i = decided Limited (any (hasSeq s) (v .scids)) (λ e z. m) (λ e z. m)
+  step-limited (MarkDcidUsed s p) i = decided Limited (any (hasSeq s) (v .dcids)) (λ e z. m) (λ e z. m)
+  step-limited (MarkScidToAdvertise s on) i = decided Limited (on && leb queueSlots (length (v .advertise))) (λ e z. m) (λ e z. m)
+  step-limited (MarkDcidToRetire s true) i = never i
+  step-limited (MarkDcidToRetire s false) i = λ z. omega (arith, length-keep (λ (n : ℕ). not (eqb s n)) (v .retire))
+  step-limited (Ask q) i = λ z. m
 
 too-many : (w : View) → tooMany w ≡ true → retireFactor * w .dlimit < length (w .retire)
 too-many w t = ltb-true (retireFactor * w .dlimit) (length (w .retire)) t
 
+not-many : (w : View) → tooMany w ≡ false → length (w .retire) ≤ retireFactor * w .dlimit
+not-many w t = ltb-false (retireFactor * w .dlimit) (length (w .retire)) t
+
+-- a frame that is no error for what it says, and gives nothing that is held, comes late, raises Retire Prior To, or is added
 module _ (v : View) (f : NewConnectionId) where
-  abbrev Tracks : Out → Type 0
-  Tracks o = TracksTwice v f o
+  abbrev queues : Bool
+  queues = comesLate v f && not (has (f .seq) (v .retire))
 
-  append-tracks : (ps : List UsedSeq) (w : View) → Tracks (append (itemOf f) ps w)
-  append-tracks ps w = decided Tracks (leb (dcap (w .dlimit)) (length (w .dcids))) (λ e l c. omega (arith, c .1)) (λ e l c. never (c .0))
-
-  late-tracks : Tracks (queueLate (f .seq) v)
-  late-tracks =
-      decided Tracks (leb queueSlots (length (v .retire))) (λ e l c. omega (arith, c .1)) (λ e.
-      decided Tracks (tooMany (withRetire (v .retire ++ (f .seq ∷ [])) v)) (λ t l c. omega (arith, too-many (withRetire (v .retire ++ (f .seq ∷ [])) v) t)) (λ t l c. never (c .0)))
-
-  raise-tracks : Tracks (raise (itemOf f) (f .retirePriorTo) v)
-  raise-tracks =
-      decided Tracks (ltb queueSlots (length (queued (f .retirePriorTo) v))) (λ e l c. omega (arith, c .1)) (λ e.
-      decided Tracks (tooMany (lowered (f .retirePriorTo) v)) (λ t l c. omega (arith, too-many (lowered (f .retirePriorTo) v) t)) (λ t. append-tracks _ (lowered (f .retirePriorTo) v)))
-
-  step-tracks : otherwise v f ≡ false → Tracks (step v (newId f))
-  step-tracks n =
+  plain : (P : Out → Type 0) → otherwise v f ≡ false
+      → (queues ≡ true → increases v f ≡ false → P (queueLate (f .seq) v))
+      → (queues ≡ false → increases v f ≡ true → P (raise (itemOf f) (f .retirePriorTo) v))
+      → (queues ≡ false → increases v f ≡ false → P (append (itemOf f) [] v))
+      → P (step v (newId f))
+  plain P n l r a =
       let u = or-neither (v .zeroDcid) _ n in
       let w = or-neither (held v f) _ (u .1) in
-      decided Tracks (v .zeroDcid) (λ e. never (sym e ∙ u .0)) (λ e.
-      optioned Tracks (first (λ (y : Item). clashes y (itemOf f)) (v .dcids))
-      (λ e. decided Tracks (ltb (f .seq) (f .retirePriorTo)) (λ e. never (sym e ∙ w .1)) (λ e.
-      decided Tracks (ltb (f .seq) (v .largest) && not (has (f .seq) (v .retire))) (λ e. late-tracks) (λ e.
-      decided Tracks (ltb (v .largest) (f .retirePriorTo)) (λ e. raise-tracks) (λ e. append-tracks [] v))))
+      let k : f .retirePriorTo ≤ f .seq = ltb-false (f .seq) (f .retirePriorTo) (w .1) in
+      decided P (v .zeroDcid) (λ e. never (sym e ∙ u .0)) (λ e.
+      optioned P (first (λ (y : Item). clashes y (itemOf f)) (v .dcids))
+      (λ e. decided P (ltb (f .seq) (f .retirePriorTo)) (λ e. never (sym e ∙ w .1)) (λ e.
+      decided P queues
+      (λ e. let q = and-both (comesLate v f) _ e in l e (le-ltb (v .largest) (f .retirePriorTo) (omega (arith, ltb-true (f .seq) (v .largest) (q .0)))))
+      (λ q. decided P (increases v f) (λ e. r q e) (λ e. a q e))))
       (λ y e. never (sym (first-some (λ (y : Item). clashes y (itemOf f)) (v .dcids) y e) ∙ w .0)))
+
+  -- what is in need of retirement, in each of the three
+  need-late : queues ≡ true → increases v f ≡ false → length (v .retire ++ (f .seq ∷ [])) ≡ inNeed v f
+  need-late q e = rw (q, e) (simp length-append (omega arith))
+
+  need-raised : queues ≡ false → increases v f ≡ true → length (queued (f .retirePriorTo) v) ≡ inNeed v f
+  need-raised q e = rw (q, e) (simp (length-append, length-map) (omega arith))
+
+  need-same : queues ≡ false → increases v f ≡ false → length (v .retire) ≡ inNeed v f
+  need-same q e = rw (q, e) (omega arith)
+
+queue-limited : MetUnless itself unlimited QueueLimited
+queue-limited = met-unless itself QueueLimited unlimited (λ v c h n.
+    let u = or-neither (marking v c) _ n in
+    step-limited v (ltb-false (retireLimit v) (length (v .retire)) (u .1)) c (u .0))
+
+-- the table is full, and nothing else refuses
+over-limit : MetUnless newId unfilled OverLimit
+over-limit = met-unless newId OverLimit unfilled (λ v f h g n l m k.
+    let P : Out → Type 0 = Closes CONNECTION-ID-LIMIT-ERROR in
+    let b : ℕ = f .retirePriorTo in
+    let full : dcap (v .dlimit) ≤ length (kept v f) = ltb-false (length (kept v f)) (dcap (v .dlimit)) g in
+    plain v f P n
+    (λ q e. never (sym (and-both (comesLate v f) _ q .0) ∙ l))
+    (λ q e.
+    decided P (ltb queueSlots (length (queued b v))) (λ t. absurd (omega (arith, need-raised v f q e, ltb-true queueSlots (length (queued b v)) t, h .limits .dhigh))) (λ t.
+    decided P (tooMany (lowered b v)) (λ t. absurd (omega (arith, need-raised v f q e, too-many (lowered b v) t))) (λ t.
+    decided P (leb (dcap (v .dlimit)) (length (keep (from b) (v .dcids)))) (λ t. (refl, refl))
+    (λ t. absurd (omega (arith, ap length (kept-from v f (ltb-true (v .largest) b e)), leb-false (dcap (v .dlimit)) (length (keep (from b) (v .dcids))) t))))))
+    (λ q e.
+    decided P (leb (dcap (v .dlimit)) (length (v .dcids))) (λ t. (refl, refl))
+    (λ t. absurd (omega (arith, ap length (kept-all v f (ltb-false (v .largest) b e)), leb-false (dcap (v .dlimit)) (length (v .dcids)) t)))))
+
+-- with no more than the limit before, 128 is not reached
+many-to-retire : MetUnless newId crowded (TooManyToRetire PROTOCOL-VIOLATION)
+many-to-retire = met-unless newId (TooManyToRetire PROTOCOL-VIOLATION) crowded (λ v f h g n k.
+    let P : Out → Type 0 = Closes PROTOCOL-VIOLATION in
+    let b : ℕ = f .retirePriorTo in
+    let before : length (v .retire) ≤ retireLimit v = ltb-false (retireLimit v) (length (v .retire)) g in
+    plain v f P n
+    (λ q e.
+    let w : View = withRetire (v .retire ++ (f .seq ∷ [])) v in
+    decided P (leb queueSlots (length (v .retire))) (λ t. absurd (omega (arith, leb-true queueSlots (length (v .retire)) t, h .limits .dhigh))) (λ t.
+    decided P (tooMany w) (λ t. (refl, refl)) (λ t. absurd (omega (arith, need-late v f q e, not-many w t)))))
+    (λ q e.
+    decided P (ltb queueSlots (length (queued b v)))
+    (λ t. absurd (omega (arith, queued-few v b, ltb-true queueSlots (length (queued b v)) t, h .limits .dhigh, h .destination .few))) (λ t.
+    decided P (tooMany (lowered b v)) (λ t. (refl, refl)) (λ t. absurd (omega (arith, need-raised v f q e, not-many (lowered b v) t)))))
+    (λ q e. absurd (omega (arith, need-same v f q e))))
+  where
+    queued-few : (v : View) (b : ℕ) → length (queued b v) ≤ length (v .retire) + length (v .dcids)
+    queued-few v b = simp (length-append, length-map) (omega (arith, length-keep (below b) (v .dcids)))
+
+tracks-twice : MetUnless newId otherwise TracksTwice
+tracks-twice = met-unless newId TracksTwice otherwise (λ v f h n k.
+    let P : Out → Type 0 = λ o. (Closes CONNECTION-ID-LIMIT-ERROR o → ⊥) → o .refusal ≡ 0 in
+    let b : ℕ = f .retirePriorTo in
+    plain v f P n
+    (λ q e.
+    let w : View = withRetire (v .retire ++ (f .seq ∷ [])) v in
+    decided P (leb queueSlots (length (v .retire))) (λ t. absurd (omega (arith, length-append (v .retire) (f .seq ∷ []), need-late v f q e, leb-true queueSlots (length (v .retire)) t, h .limits .dhigh))) (λ t.
+    decided P (tooMany w) (λ t. absurd (omega (arith, need-late v f q e, too-many w t))) (λ t c. refl)))
+    (λ q e.
+    decided P (ltb queueSlots (length (queued b v))) (λ t. absurd (omega (arith, need-raised v f q e, ltb-true queueSlots (length (queued b v)) t, h .limits .dhigh))) (λ t.
+    decided P (tooMany (lowered b v)) (λ t. absurd (omega (arith, need-raised v f q e, too-many (lowered b v) t))) (λ t.
+    appended (itemOf f) (lowered b v) _)))
+    (λ q e. appended (itemOf f) v []))
+  where
+    appended : (x : Item) (w : View) (ps : List UsedSeq) → (Closes CONNECTION-ID-LIMIT-ERROR (append x ps w) → ⊥) → append x ps w .refusal ≡ 0
+    appended x w ps = decided (λ (o : Out). (Closes CONNECTION-ID-LIMIT-ERROR o → ⊥) → o .refusal ≡ 0) (leb (dcap (w .dlimit)) (length (w .dcids))) (λ e c. absurd (c (refl, refl))) (λ e c. refl)
 
 -- ---- the whole
 
@@ -508,14 +629,16 @@ conforms = record {
   acceptedUntilRetired = met-unless itself AcceptedUntilRetired retiring (λ v c h i. step-accepts v c i .each);
   othersStay = met retireId OthersStay (λ v f h. others-stay v f (retire-scid-ends (f .seq) (f .packet) v));
   withinPeerLimit = met-unless issueId WithinPeerLimit excess (λ v i h x. peer-within v i (issue-ends v i) (ltb-false (v .slimit) (active v) x));
-  withinLimit = met-unless newId WithinLimit atLimit (λ v f h a. limit-within v f (ends v f) (leb-false (v .dlimit) (length (v .dcids)) a));
+  withinLimit = limited;
+  overLimit = over-limit;
   supplies = supplied;
   totalLimited = met issueId TotalLimited (λ v i h. total-limited v i (issue-ends v i));
   issuanceLimited = met SetScidLimit IssuanceLimited (λ v n h. (omega arith, omega arith));
   zeroLengthIssues = zero-issues;
-  lowerAreRetired = met-unless newId LowerAreRetired held (λ v f h c. lower-retired v f (ends v f) c);
-  queueLimited = met newId QueueLimited (λ v f h. queue-limited v f (ends v f));
-  tracksTwice = met-unless newId TracksTwice otherwise (λ v f h n. step-tracks v f n);
+  lowerAreRetired = met-unless newId LowerAreRetired repeated (λ v f h n. unrepeated (LowerAreRetired v f) v f n (λ k z. absurd (omega arith)) (λ c. lower-retired v f (ends v f) c));
+  queueLimited = queue-limited;
+  tracksTwice = tracks-twice;
+  tooManyToRetire = many-to-retire;
   notForgotten = met-unless itself NotForgotten initial (λ v c h i. step-keeps v c i .each);
   zeroLengthDestination = zero-destination;
   sameFrameAgain = same-again;
@@ -523,7 +646,7 @@ conforms = record {
   issuedAboveOwn = met issueId IssuedAboveOwn (λ v i h. own-above v i h (issue-ends v i));
   aboveSequence = above;
   ignores = ignored;
-  lateIsRetired = met-unless newId LateIsRetired held (λ v f h c. late-retired v f (ends v f) c);
+  lateIsRetired = met-unless newId LateIsRetired repeated (λ v f h n. unrepeated (LateIsRetired v f) v f n (λ k z. absurd (omega arith)) (λ c. late-retired v f (ends v f) c));
   tokenEnds = met retireId TokenEnds (λ v f h. token-ends v f (retire-scid-ends (f .seq) (f .packet) v));
   notIssued = not-issued;
   ownPacket = own-packet;
@@ -534,11 +657,13 @@ pub differs : Differs
 differs = record {
   encoding = (refl, refl, λ r. omega (arith, r (omega arith) .1));
   overLimit = (refl, refl, λ r. omega (arith, r refl));
+  limitNoError = (refl, refl, λ r. never (r refl refl (omega arith) (omega arith) .0));
   comesBack = (refl, refl, λ r. never (r (omega arith) refl));
   zeroLengthSource = (refl, refl, λ r. omega (arith, r refl .1));
   repeatRaises = (refl, refl, λ r. never (sym (r (omega arith) refl .0)));
   encodingOfRepeat = (refl, refl, λ r. r (omega arith) refl);
-  tooManyToRetire = (refl, refl, λ r. omega (arith, r refl (λ z. omega arith) .1));
+  tooManyToRetire = (refl, refl, λ r. omega (arith, r refl (omega arith) .1));
+  manyMarks = (refl, refl, λ r. omega (arith, r refl));
   frameOfRetired = (refl, refl, λ r. omega (arith, r 1 2 (cid 2) (token 2) refl));
   retiresUnsent = (refl, refl, λ r. never (r refl .0));
   frameForRetired = (refl, refl, λ r. never (r refl));
