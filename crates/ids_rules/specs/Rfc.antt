@@ -1,5 +1,6 @@
--- RFC 9000, sections 5.1.1, 5.1.2, 19.15 and 19.16, as rules on the view before, what came, and what comes of it: which of them the calls meet, which
--- they meet but for a listed case, and where they differ. D1 to D23 are rows of docs/DIFFERENCES.md. The proofs are in RfcProof.antt.
+-- RFC 9000, sections 5.1.1, 5.1.2, 9.5, 10.3.2, 19.15 and 19.16, as rules on the view before, what came, and what comes of it: which of them the calls
+-- meet, which they meet but for a listed case, and where they differ. D1 to D23 and D37 to D39 are rows of docs/DIFFERENCES.md. The proofs are in
+-- RfcProof.antt.
 use Prim.Native.Nat.{ℕ, _+_, _*_, _≤_, _<_}
 use mathlib.Core.Path.{_≡_}
 use mathlib.Core.List.{List, [], _∷_, map}
@@ -7,12 +8,12 @@ use mathlib.Core.Bool.{Bool, true, false, cond, not, _&&_, _||_}
 use mathlib.Core.Option.{Option, none, some}
 use lib.ListN.{length, replicate}
 use lib.Dec.{eqb, leb, ltb}
-use Rattle.lists.specs.Defs.{present, first, keep, any, all, has}
+use Rattle.lists.specs.Defs.{maybe, present, first, keep, any, all, has}
 use Rattle.values.specs.declared.cid.ConnectionId.{ConnectionId}
 use Rattle.values.specs.Cid.{cidNew, zeroId, sameId}
 use Rattle.values.specs.Limits.{maxCidLen, tokenLen, minScidLimit, maxCidsCount, maxSequence, queueSlots, retireFactor}
 use Rattle.values.specs.Refusals.{wireCode, CONNECTION-ID-LIMIT-ERROR, PROTOCOL-VIOLATION}
-use Rattle.ids_rules.specs.Values.{Item, seqOf, hasSeq, hasCid, from, below, clashes, repeats}
+use Rattle.ids_rules.specs.Values.{Item, seqOf, hasSeq, hasCid, from, below, clashes, sameToken, repeats}
 use Rattle.ids_rules.specs.View.{View, Out, Issued, Retired, Perhaps, Frame, accepted, dcap}
 use Rattle.ids_rules.specs.Steps.{fresh, sole, without, lowestFrom}
 use Rattle.ids_rules.specs.Well.{well}
@@ -42,6 +43,11 @@ pub record Issue : Type 0 where
   pub path : Option ℕ
   pub leave : Bool
 
+-- the host puts an ID on a path
+pub record Use : Type 0 where
+  pub seq : ℕ
+  pub path : ℕ
+
 -- the peer's first ID
 pub record Initial : Type 0 where
   pub cid : ConnectionId
@@ -56,6 +62,12 @@ retireId f = RetireScid (f .seq) (f .packet)
 
 abbrev pub issueId : Issue → Call
 issueId i = AddScid (i .cid) (i .token) (i .advertise) (i .path) (i .leave)
+
+abbrev pub useSource : Use → Call
+useSource u = MarkScidUsed (u .seq) (u .path)
+
+abbrev pub useDestination : Use → Call
+useDestination u = MarkDcidUsed (u .seq) (u .path)
 
 abbrev pub initialId : Initial → Call
 initialId i = SetInitialDcid (i .cid) (i .token) (i .path)
@@ -277,6 +289,22 @@ initial v (Ask q) = false
 abbrev pub RaisedOnce : Rule Issue
 RaisedOnce v i o = any (below (v .rpt)) (v .scids) ≡ true → o .view .rpt ≡ v .rpt
 
+-- ---- 9.5, paths, and 10.3.2, tokens
+
+-- an ID MUST NOT be used from more than one local address or to more than one destination: one that is on a path is put on no other
+abbrev pub OnePath : (View → List Item) → Rule Use
+OnePath table v u o = o .refusal ≡ 0 → any (λ (x : Item). hasSeq (u .seq) x && maybe (x .path) false (λ p. not (eqb p (u .path)))) (table v) ≡ false
+
+-- the same token MUST NOT be used for two IDs: ours, and the peer's, where it MAY be a PROTOCOL_VIOLATION
+abbrev pub shares : ConnectionId → Option (List ℕ) → Item → Bool
+shares c t x = not (hasCid c x) && sameToken (x .token) t
+
+abbrev pub TokenOnce : Rule Issue
+TokenOnce v i o = o .refusal ≡ 0 → any (shares (i .cid) (i .token)) (v .scids) ≡ false
+
+abbrev pub PeerTokenOnce : Rule NewConnectionId
+PeerTokenOnce v f o = o .refusal ≡ 0 → any (shares (f .cid) (some (f .token))) (v .dcids) ≡ false
+
 -- ---- 19.15, NEW_CONNECTION_ID
 
 -- an ID length below 1 or above 20 MUST be a FRAME_ENCODING_ERROR
@@ -405,7 +433,7 @@ pub record Conforms : Type 0 where
   pub sameFrameAgain : Met newId SameFrameAgain
   pub conflict : Met newId Conflict
   pub issuedAboveOwn : Met issueId IssuedAboveOwn
-  -- with the code of D1, and but for D6
+  -- with the code of D1, and but for D6 and D39
   pub aboveSequence : MetUnless newId repeated (AboveSequence PROTOCOL-VIOLATION)
   pub ignores : Met newId Ignores
   pub lateIsRetired : MetUnless newId repeated LateIsRetired
@@ -466,13 +494,15 @@ pub record Differs : Type 0 where
   pub zeroLengthSource : DiffersAt retireId ZeroLengthSource (fresh 1 zeroId 0 none) (record { seq = 0; packet = zeroId })
   -- D5: a repeat's higher Retire Prior To is ignored
   pub repeatRaises : DiffersAt newId LowerAreRetired (run (ids 2) (newId (dcid 2 0 0) ∷ newId (dcid 3 1 0) ∷ [])) (dcid 3 1 1)
+  pub repeatKeepsAll : DiffersAt newId WithinLimit (run (ids 2) (newId (dcid 2 0 0) ∷ newId (dcid 3 1 0) ∷ newId (dcid 4 2 0) ∷ [])) (dcid 4 2 2)
   -- D6: a repeat with Retire Prior To above its sequence succeeds
   pub encodingOfRepeat : DiffersAt newId AboveIsError (run (ids 1) (newId (dcid 2 0 0) ∷ [])) (dcid 2 0 1)
   -- D7: PROTOCOL_VIOLATION for CONNECTION_ID_LIMIT_ERROR
   pub tooManyToRetire : DiffersAt newId (TooManyToRetire CONNECTION-ID-LIMIT-ERROR)
       (run (ids 1) (newId (dcid 5 5 5) ∷ newId (dcid 6 0 0) ∷ newId (dcid 7 1 0) ∷ newId (dcid 8 2 0) ∷ newId (dcid 9 3 0) ∷ [])) (dcid 10 4 0)
-  -- and marks are not held against the limit
+  -- and marks are not held against the limit, nor a frame that comes after them and adds none
   pub manyMarks : DiffersAt itself QueueLimited (run (ids 1) (replicate 4 (MarkDcidToRetire 0 true))) (MarkDcidToRetire 0 true)
+  pub afterMarks : DiffersAt newId (TooManyToRetire PROTOCOL-VIOLATION) (run (ids 1) (replicate 5 (MarkDcidToRetire 0 true))) (dcid 2 0 0)
   -- D8: a frame made later may ask to retire its own ID: sequence 1, Retire Prior To 2
   pub frameOfRetired : DiffersAt makeFrame FrameAboveOwn pushed 1
   -- D9: a sequence that was issued and not yet sent can be retired
@@ -506,3 +536,11 @@ pub record Differs : Type 0 where
   pub issuesEmpty : DiffersAt issueId IssuesLength (ids 1) (record { cid = zeroId; token = some (token 0); advertise = false; path = none; leave = false })
   -- D23 (18.2): a limit below 2 is raised to 2
   pub lowLimit : DiffersAt SetScidLimit LimitBelowTwo (ids 1) 0
+  -- D37 (10.3.2): the token of another ID is taken, for ours and for the peer's
+  pub sharesToken : DiffersAt issueId TokenOnce (fresh 1 (cid 1) 0 (some (token 1))) (record { cid = cid 2; token = some (token 1); advertise = false; path = none; leave = false })
+  pub peerSharesToken : DiffersAt newId PeerTokenOnce (run (ids 2) (newId (dcid 2 0 0) ∷ [])) (record { cid = cid 3; seq = 1; token = token 2; retirePriorTo = 0 })
+  -- D38 (9.5): an ID on a path is put on another, the peer's and ours
+  pub movesPath : DiffersAt useDestination (OnePath (λ v. v .dcids)) (run (ids 1) (SetInitialDcid (cid 2) (some (token 2)) (some 0) ∷ [])) (record { seq = 0; path = 1 })
+  pub movesOwnPath : DiffersAt useSource (OnePath (λ v. v .scids)) (ids 1) (record { seq = 0; path = 1 })
+  -- D39: the peer's first ID, set after a Retire Prior To, lies below it, and its frame is a repeat
+  pub lateRepeat : DiffersAt newId LateIsRetired (run (ids 1) (newId (dcid 5 5 5) ∷ initialDcid 2 ∷ [])) (dcid 2 0 0)
