@@ -23,21 +23,21 @@ pub record Row : Type 0 where
   pub out : Out
 
 -- a refusal that changes nothing; one that leaves w; an acceptance that changes nothing; one that leaves w
-abbrev stays : View → Call → ℕ → Row
+abbrev pub stays : View → Call → ℕ → Row
 stays v c n = record { before = v; call = c; out = refused n v }
 
-abbrev leaves : View → Call → ℕ → View → Row
+abbrev pub leaves : View → Call → ℕ → View → Row
 leaves v c n w = record { before = v; call = c; out = refused n w }
 
-abbrev says : View → Call → Answer → Row
+abbrev pub says : View → Call → Answer → Row
 says v c a = record { before = v; call = c; out = accepted a v }
 
-abbrev gives : View → Call → Answer → View → Row
+abbrev pub gives : View → Call → Answer → View → Row
 gives v c a w = record { before = v; call = c; out = accepted a w }
 
 -- ---- the words of the table
 
-abbrev cid : ℕ → ConnectionId
+abbrev pub cid : ℕ → ConnectionId
 cid n = cidNew (n ∷ [])
 
 -- not of its form: too long, or not zero past its length; and of the largest length

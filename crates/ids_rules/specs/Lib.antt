@@ -5,6 +5,7 @@ pub mod Well
 pub mod Calls
 pub mod Trials
 pub mod Bounds
+pub mod Rows
 pub mod Promise
 pub mod Example
 pub mod Laws
