@@ -1,4 +1,5 @@
-// The published calls of the timers, over a state that the host lends: the answer is the call's answer, and the state is left as the call leaves it.
+// The published calls of the timers, over a state that the host lends: the answer is the call's answer, and the state is left as the call leaves it. What
+// timers_lent has is called there.
 ghost use mathlib.Core.Path.{_≡_};
 ghost use Rattle.timers.specs.Runs as R;
 ghost use Rattle.timers.specs.Calls.{freshCall};
@@ -21,9 +22,7 @@ pub extern "C" fn vig_timers_fresh() -> TimerTable
 pub extern "C" fn vig_timers_set(t: &mut TimerTable, timer: u64, at: Moment) -> Done
     ensures { λ r. ⌜ R.Done (record { timers = now (t .exit); answer = r }) ≡ R.result (now (t .entry)) (R.Set timer at) ⌝ }
 {
-    let a = timers::set(*t, timer, at);
-    *t = a.timers;
-    a.answer
+    timers_lent::set(t, timer, at)
 }
 
 // The timer's deadline, if it is set.
@@ -39,9 +38,7 @@ pub extern "C" fn vig_timers_get(t: &TimerTable, timer: u64) -> Timed
 pub extern "C" fn vig_timers_stop(t: &mut TimerTable, timer: u64) -> Done
     ensures { λ r. ⌜ R.Done (record { timers = now (t .exit); answer = r }) ≡ R.result (now (t .entry)) (R.Stop timer) ⌝ }
 {
-    let a = timers::stop(*t, timer);
-    *t = a.timers;
-    a.answer
+    timers_lent::stop(t, timer)
 }
 
 // The least deadline that is set.
@@ -49,7 +46,7 @@ pub extern "C" fn vig_timers_stop(t: &mut TimerTable, timer: u64) -> Done
 pub extern "C" fn vig_timers_next_timeout(t: &TimerTable) -> Timed
     ensures { λ r. ⌜ R.ATime r ≡ R.result (now (t .entry)) R.NextTimeout ⌝ }
 {
-    timers::next_timeout(*t)
+    timers_lent::next_timeout(t)
 }
 
 // Whether the timer is set, and its deadline is not after now.
@@ -65,7 +62,5 @@ pub extern "C" fn vig_timers_is_expired(t: &TimerTable, timer: u64, moment: Mome
 pub extern "C" fn vig_timers_clear(t: &mut TimerTable) -> Done
     ensures { λ r. ⌜ R.Done (record { timers = now (t .exit); answer = r }) ≡ R.result (now (t .entry)) R.Clear ⌝ }
 {
-    let a = timers::clear(*t);
-    *t = a.timers;
-    a.answer
+    timers_lent::clear(t)
 }
