@@ -484,6 +484,11 @@ abbrev pub InsertionFrame : Type 0
 InsertionFrame = (p : ℕ) (pair : FourTuple) (size : ℕ) (s : Paths) → (insertedIn (result s (InsertPath pair size)) ≡ some p → ⊥)
     → (b : Bool) → withListed b (item p (made s (InsertPath pair size))) ≡ withListed b (item p s)
 
+-- and it may take that listing away, but gives none: p is listed after it only if it was before
+abbrev pub InsertionUnlists : Type 0
+InsertionUnlists = (p : ℕ) (pair : FourTuple) (size : ℕ) (s : Paths) → (insertedIn (result s (InsertPath pair size)) ≡ some p → ⊥)
+    → item p (made s (InsertPath pair size)) .listed ≡ true → item p s .listed ≡ true
+
 -- p becomes verified only by the mark, or by a response on p that is not yet Validated
 abbrev pub OnlyVerified : Type 0
 OnlyVerified = (p : ℕ) (s : Paths) (c : CodeCall) → (c ≡ MarkVerified p → ⊥)
@@ -516,5 +521,6 @@ pub record Held : Type 0 where
   pub oneRun : OneRun
   pub frame : Frame
   pub insertionFrame : InsertionFrame
+  pub insertionUnlists : InsertionUnlists
   pub onlyVerified : OnlyVerified
   pub onlyCredit : OnlyCredit

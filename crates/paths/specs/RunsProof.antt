@@ -35,7 +35,7 @@ use Rattle.paths.specs.Runs.{OnPathChalReceived, OnPathChalSent, OnPathR
 use Rattle.paths.specs.Runs.{Result, Done, Insertion, Popped, Response, ACount, AFlag, ANumber, ATime, AnAddress, APath, AFound}
 use Rattle.paths.specs.Runs.{Shape, ADone, AnInsertion, APopped, AResponse, Counts, Flags, Numbers, Times, Addresses, Wholes, Finds, shape, shaped, refusedAt}
 use Rattle.paths.specs.Runs.{started, argsFormed, result, stateIn, refusalIn, made, refusal, calls, viewCall, viewCalls, resultAs, Published, amountsTo, totalCredit, totalCharge, item, allowance, insertedIn, Lasts, Within, Begins, first, inserted, withListed}
-use Rattle.paths.specs.Runs.{Applies, Complete, Malformed, OnlyRefuses, LeavesNothing, KeepsWell, FreshOne, FreshWell, RunsWell, NeverOne, IsRun, IsStart, Demand3, StartingAllowance, OneRun, Frame, InsertionFrame, OnlyVerified, OnlyCredit, Held}
+use Rattle.paths.specs.Runs.{Applies, Complete, Malformed, OnlyRefuses, LeavesNothing, KeepsWell, FreshOne, FreshWell, RunsWell, NeverOne, IsRun, IsStart, Demand3, StartingAllowance, OneRun, Frame, InsertionFrame, InsertionUnlists, OnlyVerified, OnlyCredit, Held}
 use Rattle.paths_rules.specs.Calls as C
 use Rattle.paths_rules.specs.Path as R
 use Rattle.paths_rules.specs.Promise as P
@@ -736,6 +736,13 @@ insertion-frame p pair size s h b =
     (λ w e. ap pathOf (F.insertion-frame p pair size (view s) (λ a. h (new-is s w (InsertPath pair size) e ∙ ap insertedBy a)) b) ∙ sym (ap (withListed b) (item-is p s w)))
     refl
 
+pub insertion-unlists : InsertionUnlists
+insertion-unlists p pair size s h =
+    framed p s (InsertPath pair size) (λ (x : Path). x .listed ≡ true → item p s .listed ≡ true)
+    (λ w e l. ap (λ (x : Path). x .listed) (item-is p s w)
+    ∙ F.insertion-unlists p pair size (view s) (λ a. h (new-is s w (InsertPath pair size) e ∙ ap insertedBy a)) l)
+    (λ l. l)
+
 -- a call on one path is that of one call of the code
 abbrev codeOf : Call → CodeCall
 codeOf c = complete c .call
@@ -809,6 +816,7 @@ held = record {
   oneRun = one-run;
   frame = frame;
   insertionFrame = insertion-frame;
+  insertionUnlists = insertion-unlists;
   onlyVerified = only-verified;
   onlyCredit = only-credit;
 }

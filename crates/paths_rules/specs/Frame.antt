@@ -6,6 +6,7 @@ use mathlib.Core.Bool.{Bool, true, false, cond, _&&_}
 use mathlib.Core.Option.{Option, none, some}
 use native.Mathlib.Omega.{arith}
 use lib.Dec.{leb, ltb}
+use Rattle.lists.specs.Bools.{and-both}
 use Rattle.lists.specs.Defs.{firstWith}
 use Rattle.values.specs.Limits.{maxProbingTimeouts, minClientInitialLen}
 use Rattle.values.specs.declared.address.FourTuple.{FourTuple}
@@ -16,7 +17,7 @@ use Rattle.paths_rules.specs.Well.{well}
 use Rattle.paths_rules.specs.Calls.{Act, Initiate, Pop, Receive, Send, Respond, Credit, Charge, SetScid, SetDcid, SetActive, Verify, Look, Call, On, Insert}
 use Rattle.paths_rules.specs.Calls.{Timeout, Ping, Multipath, Ask, callFormed, step, effect, refusal}
 use Rattle.paths_rules.specs.Steps.{both, decided, one-holds, act-holds, insert-holds, call-holds}
-use Rattle.paths_rules.specs.Promise.{names, Frame, InsertionFrame, OnlyVerified, OnlyCredit}
+use Rattle.paths_rules.specs.Promise.{names, Frame, InsertionFrame, InsertionUnlists, OnlyVerified, OnlyCredit}
 
 -- ---- every field
 
@@ -55,6 +56,16 @@ insertion-frame p a m t h b = test (well t && callFormed (Insert a m)) h
         → withListed b (pathAt p (cond w (insert a m t) (refused 1 t) .table)) ≡ withListed b (pathAt p t)
     test true h = insert-holds (λ (y : Path). withListed b y ≡ withListed b (pathAt p t)) p t refl (λ c x e. e) a m (λ e. absurd (h e))
     test false h = refl
+
+pub insertion-unlists : InsertionUnlists
+insertion-unlists p a m t h = test (well t && callFormed (Insert a m)) h
+  where
+    P : Path → Type 0
+    P y = y .listed ≡ true → pathAt p t .listed ≡ true
+
+    test : (w : Bool) → (cond w (insert a m t) (refused 1 t) .answer ≡ Inserted p → ⊥) → P (pathAt p (cond w (insert a m t) (refused 1 t) .table))
+    test true h = insert-holds P p t (λ e. e) (λ c x k e. k (and-both (x .listed) _ e .0)) a m (λ e. absurd (h e))
+    test false h = λ e. e
 
 -- ---- what a timeout keeps
 

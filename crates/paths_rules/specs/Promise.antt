@@ -142,6 +142,11 @@ abbrev pub InsertionFrame : Type 0
 InsertionFrame = (p : ℕ) (a : FourTuple) (m : ℕ) (t : Table) → (apply t (Insert a m) .answer ≡ Inserted p → ⊥)
     → (b : Bool) → withListed b (pathAt p (after t (Insert a m))) ≡ withListed b (pathAt p t)
 
+-- and it may take that listing away, but gives none: p is listed after it only if it was before
+abbrev pub InsertionUnlists : Type 0
+InsertionUnlists = (p : ℕ) (a : FourTuple) (m : ℕ) (t : Table) → (apply t (Insert a m) .answer ≡ Inserted p → ⊥)
+    → pathAt p (after t (Insert a m)) .listed ≡ true → pathAt p t .listed ≡ true
+
 -- p becomes verified only by the mark, or by a response on p that is not yet Validated
 abbrev pub OnlyVerified : Type 0
 OnlyVerified = (p : ℕ) (t : Table) (c : Call) → (c ≡ On p Verify → ⊥)
