@@ -72,7 +72,7 @@ insertion-unlists p a m t h = test (well t && callFormed (Insert a m)) h
 module _ (P : Path → Type 0)
     (sent : (v : List Challenge) (x : Path) → P x → P (withSent v x)) (ask : (x : Path) → P x → P (withAsk true x))
     (lost : (n : ℕ) (x : Path) → P x → P (withLost n x)) (fail : (x : Path) → P x → P (failed x)) where
-  expire-holds : (now : ℕ) (cs : List Challenge) (x : Path) → P x → P (expire now cs x)
+  pub expire-holds : (now : ℕ) (cs : List Challenge) (x : Path) → P x → P (expire now cs x)
   expire-holds now [] x h = sent [] x h
   expire-holds now (c ∷ cs) x h =
       both P (leb (c .deadline) now)

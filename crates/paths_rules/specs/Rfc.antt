@@ -1,21 +1,22 @@
--- RFC 9000, sections 8, 8.1 and 8.2.1 to 8.2.4, as rules on the table before a frame or event, the event, and what comes of it; which the calls meet,
--- which they meet but for a listed case, and where they differ. The ids D24 to D36 are rows of docs/DIFFERENCES.md. The proofs are in RfcProof.antt.
+-- RFC 9000, sections 8, 8.1, 8.2.1 to 8.2.4, 9.3 and 9.4, as rules on the table before a frame or event, the event, and what comes of it; which the
+-- calls meet, which they meet but for a listed case, and where they differ. The ids D24 to D36 and D40 to D43 are rows of docs/DIFFERENCES.md. The proofs
+-- are in RfcProof.antt.
 use Prim.Native.Nat.{ℕ, _+_, _*_, _≤_, _<_}
 use mathlib.Core.Path.{_≡_}
 use mathlib.Core.List.{List, [], _∷_, _++_, map}
 use mathlib.Core.Bool.{Bool, true, false, not, _&&_, _||_}
-use mathlib.Core.Option.{some}
+use mathlib.Core.Option.{none, some}
 use lib.ListN.{length}
 use lib.Dec.{eqb, leb, ltb}
 use Rattle.lists.specs.Defs.{any, all, empty, front}
 use Rattle.values.specs.declared.address.FourTuple.{FourTuple}
 use Rattle.values.specs.Limits.{maxShift, maxMoment, maxPathChalsRecv, maxPathChalsSent, maxProbingTimeouts, minClientInitialLen, minPathProbeSize}
-use Rattle.paths_rules.specs.Path.{Path, Challenge, rankFailed, challenge, lossTime, carries, largestAfter, probing, validated, allowed}
-use Rattle.paths_rules.specs.Table.{Table, Out, Number, Flag, Maybe, pathAt, known, fresh, timer}
+use Rattle.paths_rules.specs.Path.{Path, Challenge, rankFailed, challenge, lossTime, carries, probing, validated, validates, due}
+use Rattle.paths_rules.specs.Table.{Table, Out, Number, Flag, Maybe, pathAt, known, fresh}
 use Rattle.paths_rules.specs.Well.{well}
-use Rattle.paths_rules.specs.Calls.{Call, On, Insert, Timeout, Look, NeedsFrames, NeedsPadding, Allowed, Pop, Receive, Send, Respond, Credit, Verify}
-use Rattle.paths_rules.specs.Calls.{callFormed, apply, run}
-use Rattle.paths_rules.specs.Promise.{Begins, Lasts, Within, totalCredit, totalCharge, OnlyVerified}
+use Rattle.paths_rules.specs.Calls.{Call, On, Insert, Timeout, Ask, Timer, Look, NeedsFrames, NeedsPadding, Allowed, Pop, Receive, Send, Respond, Credit, SetActive, Verify}
+use Rattle.paths_rules.specs.Calls.{callFormed, apply, after, run}
+use Rattle.paths_rules.specs.Promise.{Starts, Begins, Lasts, Within, totalCredit, totalCharge, OnlyVerified}
 use Rattle.paths_rules.specs.Words.{pairA, pairB, pairC}
 
 -- ---- events, and how the calls take them
@@ -23,17 +24,17 @@ use Rattle.paths_rules.specs.Words.{pairA, pairB, pairC}
 -- a PATH_RESPONSE frame, on the path that the host names
 pub record Response : Type 0 where
   pub path : ℕ
-  pub token : ℕ
+  pub «data» : ℕ
   pub now : ℕ
 
 -- a PATH_CHALLENGE frame received, and one sent in a datagram of a size
 pub record Received : Type 0 where
   pub path : ℕ
-  pub token : ℕ
+  pub «data» : ℕ
 
 pub record Sent : Type 0 where
   pub path : ℕ
-  pub token : ℕ
+  pub «data» : ℕ
   pub size : ℕ
   pub now : ℕ
 
@@ -42,19 +43,24 @@ pub record Datagram : Type 0 where
   pub path : ℕ
   pub length : ℕ
 
+-- the timer of a path, looked at at a moment
+pub record Fired : Type 0 where
+  pub path : ℕ
+  pub now : ℕ
+
 -- a path that is inserted
 pub record Begun : Type 0 where
   pub pair : FourTuple
   pub datagram : ℕ
 
 abbrev pub response : Response → Call
-response f = On (f .path) (Respond (f .token) (f .now))
+response f = On (f .path) (Respond (f .«data») (f .now))
 
 abbrev pub received : Received → Call
-received f = On (f .path) (Receive (f .token))
+received f = On (f .path) (Receive (f .«data»))
 
 abbrev pub sent : Sent → Call
-sent f = On (f .path) (Send (f .token) (f .size) (f .now))
+sent f = On (f .path) (Send (f .«data») (f .size) (f .now))
 
 abbrev pub arrived : Datagram → Call
 arrived f = On (f .path) (Credit (f .length))
@@ -77,6 +83,12 @@ padding p = On p (Look NeedsPadding)
 
 abbrev pub timed : ℕ → Call
 timed now = Timeout now
+
+abbrev pub timer : ℕ → Call
+timer p = Ask Timer
+
+abbrev pub fired : Fired → Call
+fired f = Timeout (f .now)
 
 abbrev pub itself : Call → Call
 itself c = c
@@ -119,44 +131,95 @@ Limits t f o = known (f .path) t ≡ true → pathAt (f .path) t .verified ≡ f
 abbrev pub onClient : Table → Datagram → Bool
 onClient t f = not (t .server)
 
+-- the limit of the path p permits a datagram of n bytes: the address is validated, or n is at most the credit. A client has no limit (D35)
+abbrev pub permits : Table → ℕ → ℕ → Bool
+permits t p n = not (t .server) || pathAt p t .verified || leb n (pathAt p t .credit)
+
 -- ---- 8.2.1, initiating path validation
+
+-- the smallest allowed maximum datagram size
+abbrev pub smallestSize : ℕ
+smallestSize = 1200
 
 -- an endpoint MAY send multiple PATH_CHALLENGE frames to guard against packet loss: here, until sixteen stand
 abbrev pub Several : Rule Sent
 Several t f o = known (f .path) t ≡ true → length (pathAt (f .path) t .sent) < maxPathChalsSent
-    → (o .refusal ≡ 0) × (pathAt (f .path) (o .table) .sent ≡ pathAt (f .path) t .sent ++ (challenge (f .token) (f .size) (f .now) (pathAt (f .path) t .lost) ∷ []))
+    → (o .refusal ≡ 0) × (pathAt (f .path) (o .table) .sent ≡ pathAt (f .path) t .sent ++ (challenge (f .«data») (f .size) (f .now) (pathAt (f .path) t .lost) ∷ []))
 
 -- the exception: 8
 abbrev pub far : Table → Sent → Bool
 far t f = ltb maxShift (pathAt (f .path) t .lost) || ltb maxMoment (lossTime (f .now) (pathAt (f .path) t .lost))
 
--- an endpoint MUST expand datagrams that contain a PATH_CHALLENGE frame (8.2.2: a PATH_RESPONSE frame) to 1200 bytes, unless the anti-amplification
--- limit does not permit it
+-- an endpoint MUST expand datagrams that contain a PATH_CHALLENGE frame (8.2.2: a PATH_RESPONSE frame) to at least 1200 bytes, unless the
+-- anti-amplification limit for the path does not permit sending a datagram of this size
 abbrev pub Expands : Rule ℕ
-Expands t p o = known p t ≡ true → allowed (t .server) minClientInitialLen (pathAt p t) ≡ minClientInitialLen → o .answer ≡ Flag true
+Expands t p o = known p t ≡ true → permits t p smallestSize ≡ true → o .answer ≡ Flag true
 
--- the exceptions: a Validated path (D33); a server whose credit is at most max_datagram_size, verified or not (D31, D32)
+-- the exceptions: a Validated path (D33)
+abbrev pub onValidated : Table → ℕ → Bool
+onValidated t p = validated (pathAt p t)
+
+-- a server, with a verified address and a credit of at most max_datagram_size (D31)
+abbrev pub verifiedLow : Table → ℕ → Bool
+verifiedLow t p = t .server && pathAt p t .verified && leb (pathAt p t .credit) (pathAt p t .datagram)
+
+-- a server, with an address not verified and a credit from 1200 up to max_datagram_size (D32)
+abbrev pub upToSize : Table → ℕ → Bool
+upToSize t p = t .server && not (pathAt p t .verified) && leb smallestSize (pathAt p t .credit) && leb (pathAt p t .credit) (pathAt p t .datagram)
+
 abbrev pub notTold : Table → ℕ → Bool
-notTold t p = validated (pathAt p t) || (t .server && leb (pathAt p t .credit) (pathAt p t .datagram))
+notTold t p = onValidated t p || verifiedLow t p || upToSize t p
 
--- 8.2.2: an endpoint MUST NOT expand it past the anti-amplification limit
+-- 8.2.2: an endpoint MUST NOT expand the datagram if the resulting data exceeds the anti-amplification limit: it is told to only where the limit permits
+-- a datagram of 1200 bytes
 abbrev pub ExpandsWithin : Rule ℕ
-ExpandsWithin t p o = t .server ≡ true → o .answer ≡ Flag true → pathAt p t .datagram ≤ pathAt p t .credit
+ExpandsWithin t p o = o .answer ≡ Flag true → permits t p smallestSize ≡ true
+
+-- the exception: max_datagram_size is below 1200 (D40)
+abbrev pub smallSize : Table → ℕ → Bool
+smallSize t p = ltb (pathAt p t .datagram) smallestSize
+
+-- the probe timeout (PTO) of a new path: with kInitialRtt of 333 ms it is 999 ms or more
+abbrev pub initialPto : ℕ
+initialPto = 999000
+
+-- an endpoint SHOULD NOT probe a new path more frequently than it would send an Initial packet: a timeout asks for no other challenge before a PTO has
+-- passed since one that stands was sent
+abbrev pub NoMoreOften : Rule Fired
+NoMoreOften t f o = pathAt (f .path) t .ask ≡ false → all (λ (c : Challenge). ltb (f .now) (c .sent + initialPto)) (pathAt (f .path) t .sent) ≡ true
+    → pathAt (f .path) (o .table) .ask ≡ false
 
 -- where the path MTU is not validated, the endpoint MUST perform a second path validation (8.2.3: MUST initiate another): one is asked for
 abbrev pub ProbesAgain : Rule Response
 ProbesAgain t f o = known (f .path) t ≡ true → validated (pathAt (f .path) t) ≡ false
     → pathAt (f .path) (o .table) .largest < minClientInitialLen → pathAt (f .path) (o .table) .ask ≡ true
 
--- a path becomes Validated only with a matched size of 1200 or more: by any call
-abbrev pub OnlyExpanded : Rule Call
-OnlyExpanded t c o = (p : ℕ) → validated (pathAt p t) ≡ false → validated (pathAt p (o .table)) ≡ true → minClientInitialLen ≤ pathAt p (o .table) .largest
+-- a challenge with the data d stands on the path p; one that was sent in a datagram of at least 1200 bytes
+abbrev pub matches : Table → ℕ → ℕ → Bool
+matches t p d = any (carries d) (pathAt p t .sent)
+
+abbrev pub expanded : Table → ℕ → ℕ → Bool
+expanded t p d = any (λ (c : Challenge). carries d c && leb smallestSize (c .size)) (pathAt p t .sent)
+
+-- where the datagram is not expanded, the path MTU will not be validated: a path becomes Validated only by a response with the data of a challenge
+-- that was sent on it in a datagram of at least 1200 bytes. (Only by a response: `OnlyByResponse`)
+abbrev pub OnlyExpanded : Rule Response
+OnlyExpanded t f o = validated (pathAt (f .path) t) ≡ false → validated (pathAt (f .path) (o .table)) ≡ true → expanded t (f .path) (f .«data») ≡ true
+
+-- the exception: the path remembers such a challenge, of an earlier response
+abbrev pub remembers : Table → Response → Bool
+remembers t f = leb smallestSize (pathAt (f .path) t .largest)
+
+-- it is no difference: after any calls from a fresh table, no path that is not Validated remembers one
+abbrev pub NoneRemembered : Type 0
+NoneRemembered = (server : Bool) (factor : ℕ) (t : Table) → Starts server factor t
+    → (cs : List Call) (f : Response) → validated (pathAt (f .path) (run t cs)) ≡ false → remembers (run t cs) f ≡ false
 
 -- ---- 8.2.2, path validation responses
 
 -- on receiving a PATH_CHALLENGE frame, an endpoint MUST respond by echoing the data: it is kept, and so are those before it
 abbrev pub Keeps : Rule Received
-Keeps t f o = known (f .path) t ≡ true → pathAt (f .path) (o .table) .received ≡ pathAt (f .path) t .received ++ (f .token ∷ [])
+Keeps t f o = known (f .path) t ≡ true → pathAt (f .path) (o .table) .received ≡ pathAt (f .path) t .received ++ (f .«data» ∷ [])
 
 -- the exception: eight stand (D26)
 abbrev pub eightStand : Table → Received → Bool
@@ -188,24 +251,21 @@ poor t p = t .server && ltb (pathAt p t .credit) minPathProbeSize
 
 -- ---- 8.2.3, successful path validation
 
-abbrev pub matches : Table → ℕ → ℕ → Bool
-matches t p d = any (carries d) (pathAt p t .sent)
-
 -- path validation succeeds when a PATH_RESPONSE contains the data of a PATH_CHALLENGE that stands on the path
 abbrev pub Succeeds : Rule Response
-Succeeds t f o = known (f .path) t ≡ true → matches t (f .path) (f .token) ≡ true → pathAt (f .path) (o .table) .verified ≡ true
+Succeeds t f o = known (f .path) t ≡ true → matches t (f .path) (f .«data») ≡ true → pathAt (f .path) (o .table) .verified ≡ true
 
 -- and only then
 abbrev pub OnlyWithData : Rule Response
-OnlyWithData t f o = matches t (f .path) (f .token) ≡ false → pathAt (f .path) (o .table) .verified ≡ pathAt (f .path) t .verified
+OnlyWithData t f o = matches t (f .path) (f .«data») ≡ false → pathAt (f .path) (o .table) .verified ≡ pathAt (f .path) t .verified
 
 -- received on any path, it validates the path on which the PATH_CHALLENGE was sent
 abbrev pub OnAnyPath : Rule Response
-OnAnyPath t f o = (p : ℕ) → matches t p (f .token) ≡ true → pathAt p (o .table) .verified ≡ true
+OnAnyPath t f o = (p : ℕ) → matches t p (f .«data») ≡ true → pathAt p (o .table) .verified ≡ true
 
 -- the attempt ends: what was matched no longer stands
 abbrev pub AttemptEnds : Rule Response
-AttemptEnds t f o = known (f .path) t ≡ true → matches (o .table) (f .path) (f .token) ≡ false
+AttemptEnds t f o = known (f .path) t ≡ true → matches (o .table) (f .path) (f .«data») ≡ false
 
 -- the exception: a Validated path (D29)
 abbrev pub already : Table → Response → Bool
@@ -213,13 +273,17 @@ already t f = validated (pathAt (f .path) t)
 
 -- the data of any previous PATH_CHALLENGE, whatever happened since: s was sent on the path, in a datagram of 1200 bytes or more
 abbrev pub WithPrevious : Sent → Rule Response
-WithPrevious s t f o = s .path ≡ f .path → s .token ≡ f .token → minClientInitialLen ≤ s .size → validated (pathAt (f .path) (o .table)) ≡ true
+WithPrevious s t f o = s .path ≡ f .path → s .«data» ≡ f .«data» → minClientInitialLen ≤ s .size → validated (pathAt (f .path) (o .table)) ≡ true
 
--- where the datagram was smaller than 1200 bytes, the address is validated but not the path MTU, and the endpoint can send more than three times
+-- where the challenge was sent in a datagram that is not expanded to at least 1200 bytes and the response to it validates the peer address, the path is
+-- validated but not the path MTU; as a result, the endpoint can send more than three times the data that it received
 abbrev pub AddressNotMtu : Rule Response
-AddressNotMtu t f o = known (f .path) t ≡ true → validated (pathAt (f .path) t) ≡ false → largestAfter (f .token) (pathAt (f .path) t) < minClientInitialLen
-    → (pathAt (f .path) (o .table) .verified ≡ true) × (validated (pathAt (f .path) (o .table)) ≡ false)
-    × ((wish : ℕ) → allowed (t .server) wish (pathAt (f .path) (o .table)) ≡ wish)
+AddressNotMtu t f o = known (f .path) t ≡ true → matches t (f .path) (f .«data») ≡ true → expanded t (f .path) (f .«data») ≡ false
+    → (pathAt (f .path) (o .table) .verified ≡ true) × (validated (pathAt (f .path) (o .table)) ≡ false) × ((n : ℕ) → permits (o .table) (f .path) n ≡ true)
+
+-- the exceptions: a Validated path (D29); the path remembers an expanded one, to which no calls lead (NoneRemembered)
+abbrev pub alreadyOrRemembers : Table → Response → Bool
+alreadyOrRemembers t f = already t f || remembers t f
 
 -- an acknowledgment is not adequate (8.2.4: a PATH_RESPONSE frame is required): no call but a response makes a path Validated
 abbrev pub OnlyByResponse : Rule Call
@@ -234,31 +298,65 @@ hasFailed x = eqb (x .rank) rankFailed
 abbrev pub OnlyTimeoutFails : Rule Call
 OnlyTimeoutFails t c o = (p : ℕ) → ((now : ℕ) → c ≡ Timeout now → ⊥) → hasFailed (pathAt p t) ≡ false → hasFailed (pathAt p (o .table)) ≡ false
 
--- loss of a single PATH_CHALLENGE or PATH_RESPONSE does not cause failure: eight losses do
-abbrev pub FailsAtEight : Rule ℕ
-FailsAtEight t now o = (p : ℕ) → hasFailed (pathAt p t) ≡ false → hasFailed (pathAt p (o .table)) ≡ true → maxProbingTimeouts ≤ pathAt p (o .table) .lost
+-- the next challenge begins an attempt: none stands, and the path is not being validated, or no loss was counted since the last response
+abbrev pub begins : Table → ℕ → Bool
+begins t p = empty (pathAt p t .sent) && (not (probing (pathAt p t)) || eqb (pathAt p t .lost) 0)
 
--- endpoints SHOULD abandon path validation based on a timer; the path is then unusable: at the eighth loss
-abbrev pub Abandons : Rule ℕ
-Abandons t now o = (p : ℕ) (c : Challenge) → known p t ≡ true → probing (pathAt p t) ≡ true → front (pathAt p t .sent) ≡ some c → c .deadline ≤ now
-    → maxProbingTimeouts ≤ pathAt p t .lost + 1
-    → (hasFailed (pathAt p (o .table)) ≡ true) × (pathAt p (o .table) .active ≡ false) × (pathAt p (o .table) .sent ≡ [])
+-- loss of a single PATH_CHALLENGE or PATH_RESPONSE frame does not cause path validation failure: an attempt that begins with this challenge has not
+-- failed, however late it is
+abbrev pub SingleLoss : Rule Sent
+SingleLoss t f o = begins t (f .path) ≡ true → o .refusal ≡ 0 → (now : ℕ) → hasFailed (pathAt (f .path) (after (o .table) (timed now))) ≡ false
 
--- after a timeout, the timer of the paths is later than now
-abbrev pub TimerMoves : Rule ℕ
-TimerMoves t now o = (m : ℕ) → timer (o .table .paths) ≡ some m → now < m
+-- the exception: seven losses or more of an earlier attempt are counted still (D41)
+abbrev pub lossesSurvive : Table → Sent → Bool
+lossesSurvive t f = leb maxProbingTimeouts (pathAt (f .path) t .lost + 1)
+
+-- endpoints SHOULD abandon path validation based on a timer: while a challenge stands, the timer is set, and runs out at the deadline of the oldest or
+-- earlier
+abbrev pub TimerSet : Rule ℕ
+TimerSet t p o = (c : Challenge) → front (pathAt p t .sent) ≡ some c → (o .answer ≡ Maybe none → ⊥) × ((m : ℕ) → o .answer ≡ Maybe (some m) → m ≤ c .deadline)
+
+-- when that deadline has come, the oldest is given up, and the attempt is abandoned or asks for another challenge; what stands after it has a later deadline
+abbrev pub ByTimer : Rule Fired
+ByTimer t f o = (c : Challenge) → front (pathAt (f .path) t .sent) ≡ some c → c .deadline ≤ f .now
+    → ((hasFailed (pathAt (f .path) (o .table)) || pathAt (f .path) (o .table) .ask) ≡ true) × ((m : ℕ) → due (pathAt (f .path) (o .table)) ≡ some m → f .now < m)
 
 -- the exception: challenges stand on a path that is not being validated (D29)
-abbrev pub stuck : Table → ℕ → Bool
-stuck t now = any (λ (x : Path). not (probing x) && not (empty (x .sent))) (t .paths)
+abbrev pub stuck : Table → Fired → Bool
+stuck t f = not (probing (pathAt (f .path) t))
 
--- three times the PTO for the new path is RECOMMENDED: with kInitialRtt of 333 ms the PTO is 999 ms or more
-abbrev pub threePtos : ℕ
-threePtos = 3 * 999000
+-- the attempt is abandoned at the eighth loss in a row, and the endpoint determines that the path is unusable
+abbrev pub Abandons : Rule Fired
+Abandons t f o = (c : Challenge) → probing (pathAt (f .path) t) ≡ true → front (pathAt (f .path) t .sent) ≡ some c → c .deadline ≤ f .now
+    → maxProbingTimeouts ≤ pathAt (f .path) t .lost + 1
+    → (hasFailed (pathAt (f .path) (o .table)) ≡ true) × (pathAt (f .path) (o .table) .active ≡ false) × (pathAt (f .path) (o .table) .sent ≡ [])
 
-abbrev pub NotBefore : Rule ℕ
-NotBefore t now o = (p : ℕ) → all (λ (c : Challenge). ltb now (c .sent + threePtos)) (pathAt p t .sent) ≡ true
-    → hasFailed (pathAt p t) ≡ false → hasFailed (pathAt p (o .table)) ≡ false
+-- and so no other challenge is asked for on it
+abbrev pub AsksNoMore : Rule Fired
+AsksNoMore t f o = hasFailed (pathAt (f .path) t) ≡ false → hasFailed (pathAt (f .path) (o .table)) ≡ true → pathAt (f .path) (o .table) .ask ≡ false
+
+-- the exceptions: one was asked for already, or several stand and their losses ask for one (D42)
+abbrev pub asksStill : Table → Fired → Bool
+asksStill t f = pathAt (f .path) t .ask || leb 2 (length (pathAt (f .path) t .sent))
+
+-- three times the PTO for the new path is RECOMMENDED: an attempt does not fail earlier
+abbrev pub NotBefore : Rule Fired
+NotBefore t f o = all (λ (c : Challenge). ltb (f .now) (c .sent + 3 * initialPto)) (pathAt (f .path) t .sent) ≡ true
+    → hasFailed (pathAt (f .path) t) ≡ false → hasFailed (pathAt (f .path) (o .table)) ≡ false
+
+-- ---- 9.3 and 9.4, migration
+
+-- 9.3: an endpoint that permits a migration MUST send subsequent packets to the new peer address: a response leaves the path active on which they go
+abbrev pub StaysActive : Rule Response
+StaysActive t f o = (p : ℕ) → pathAt p t .active ≡ true → pathAt p (o .table) .active ≡ true
+
+-- the exception: it makes the path Validated, without multipath (D43)
+abbrev pub validatesSingle : Table → Response → Bool
+validatesSingle t f = not (t .multipath) && validates (f .«data») (pathAt (f .path) t)
+
+-- 9.4: a timer that is set when a PATH_CHALLENGE is sent MUST NOT be more aggressive than the PTO
+abbrev pub NoMoreAggressive : Rule Sent
+NoMoreAggressive t f o = all (λ (c : Challenge). leb (c .sent + initialPto) (c .deadline)) (pathAt (f .path) (o .table) .sent) ≡ true
 
 -- ---- the whole
 
@@ -270,9 +368,10 @@ pub record Conforms : Type 0 where
   -- 8.2.1
   pub several : MetUnless sent far Several
   pub expands : MetUnless padding notTold Expands
-  pub expandsWithin : Met padding ExpandsWithin
+  pub expandsWithin : MetUnless padding smallSize ExpandsWithin
   pub probesAgain : Met response ProbesAgain
-  pub onlyExpanded : Met itself OnlyExpanded
+  pub onlyExpanded : MetUnless response remembers OnlyExpanded
+  pub noneRemembered : NoneRemembered
   -- 8.2.2
   pub keeps : MetUnless received eightStand Keeps
   pub unforgotten : MetUnless begun atLimit Unforgotten
@@ -282,14 +381,18 @@ pub record Conforms : Type 0 where
   -- 8.2.3
   pub succeeds : MetUnless response already Succeeds
   pub attemptEnds : MetUnless response already AttemptEnds
-  pub addressNotMtu : Met response AddressNotMtu
+  pub addressNotMtu : MetUnless response alreadyOrRemembers AddressNotMtu
   pub onlyVerified : OnlyVerified
   pub onlyByResponse : Met itself OnlyByResponse
   -- 8.2.4
   pub onlyTimeoutFails : Met itself OnlyTimeoutFails
-  pub failsAtEight : Met timed FailsAtEight
-  pub abandons : Met timed Abandons
-  pub timerMoves : MetUnless timed stuck TimerMoves
+  pub singleLoss : MetUnless sent lossesSurvive SingleLoss
+  pub timerSet : Met timer TimerSet
+  pub byTimer : MetUnless fired stuck ByTimer
+  pub abandons : Met fired Abandons
+  pub asksNoMore : MetUnless fired asksStill AsksNoMore
+  -- 9.3
+  pub staysActive : MetUnless response validatesSingle StaysActive
 
 -- ---- the differences, each at its smallest input, reached from fresh by calls
 
@@ -304,31 +407,45 @@ abbrev pub eight : List Call
 eight = map (λ (d : ℕ). On 1 (Send d 1200 0)) (1 ∷ 2 ∷ 3 ∷ 4 ∷ 5 ∷ 6 ∷ 7 ∷ 8 ∷ [])
 
 abbrev pub early : Sent
-early = record { path = 1; token = 7; size = 1200; now = 0 }
+early = record { path = 1; «data» = 7; size = 1200; now = 0 }
+
+-- path 1 has failed, after 25 ms
+abbrev pub abandoned : Table
+abandoned = run (probe eight) (Timeout 25000 ∷ [])
 
 pub record Differs : Type 0 where
   -- D24: without a match the address is verified
-  pub withoutData : DiffersAt response OnlyWithData (probe []) (record { path = 1; token = 0; now = 0 })
+  pub withoutData : DiffersAt response OnlyWithData (probe []) (record { path = 1; «data» = 0; now = 0 })
   -- D25: a response on path 0 does not validate path 1
-  pub otherPath : DiffersAt response OnAnyPath (probe (On 1 (Send 7 1200 0) ∷ [])) (record { path = 0; token = 7; now = 0 })
+  pub otherPath : DiffersAt response OnAnyPath (probe (On 1 (Send 7 1200 0) ∷ [])) (record { path = 0; «data» = 7; now = 0 })
   -- D26: a ninth received challenge drops the oldest
-  pub ninth : DiffersAt received Keeps (run (start 1) (map (λ (d : ℕ). On 0 (Receive d)) (1 ∷ 2 ∷ 3 ∷ 4 ∷ 5 ∷ 6 ∷ 7 ∷ 8 ∷ []))) (record { path = 0; token = 9 })
+  pub ninth : DiffersAt received Keeps (run (start 1) (map (λ (d : ℕ). On 0 (Receive d)) (1 ∷ 2 ∷ 3 ∷ 4 ∷ 5 ∷ 6 ∷ 7 ∷ 8 ∷ []))) (record { path = 0; «data» = 9 })
   -- D27: eight challenges of one moment fail the path after 25 ms
-  pub soon : DiffersAt timed NotBefore (probe eight) 25000
+  pub soon : DiffersAt fired NotBefore (probe eight) (record { path = 1; now = 25000 })
+  -- and another is asked for after 25 ms; and 25 ms is less than the PTO
+  pub often : DiffersAt fired NoMoreOften (probe (sent early ∷ [])) (record { path = 1; now = 25000 })
+  pub aggressive : DiffersAt sent NoMoreAggressive (probe []) early
   -- D28: the response to a challenge that was timed out is no match
-  pub tooLate : DiffersAt response (WithPrevious early) (probe (sent early ∷ Timeout 25000 ∷ [])) (record { path = 1; token = 7; now = 30000 })
+  pub tooLate : DiffersAt response (WithPrevious early) (probe (sent early ∷ Timeout 25000 ∷ [])) (record { path = 1; «data» = 7; now = 30000 })
   -- D29: on a Validated path neither a response nor a timeout touches what stands
-  pub staysMatched : DiffersAt response AttemptEnds (run (start 1) (On 0 (Send 7 1200 0) ∷ [])) (record { path = 0; token = 7; now = 1000 })
-  pub staysUnverified : DiffersAt response Succeeds (run (start 1) (On 0 (Send 7 1200 0) ∷ [])) (record { path = 0; token = 7; now = 1000 })
-  pub staysDue : DiffersAt timed TimerMoves (run (start 1) (On 0 (Send 7 1200 0) ∷ [])) 25000
+  pub staysMatched : DiffersAt response AttemptEnds (run (start 1) (On 0 (Send 7 1200 0) ∷ [])) (record { path = 0; «data» = 7; now = 1000 })
+  pub staysUnverified : DiffersAt response Succeeds (run (start 1) (On 0 (Send 7 1200 0) ∷ [])) (record { path = 0; «data» = 7; now = 1000 })
+  pub staysDue : DiffersAt fired ByTimer (run (start 1) (On 0 (Send 7 1200 0) ∷ [])) (record { path = 0; now = 25000 })
   -- D30: a verified address with credit below 64
   pub delayed : DiffersAt frames Prompt (run (start 1) (On 0 Verify ∷ On 0 (Receive 7) ∷ [])) 0
-  -- D31: verified, with credit 120; D32: credit is the datagram size; D33: a Validated path
+  -- D31: verified, with credit 120; D32: credit is the datagram size; D33: a Validated path, with credit above it
   pub unexpanded : DiffersAt padding Expands (probe (On 1 (Credit 40) ∷ On 1 (Send 7 120 0) ∷ On 1 (Respond 7 10) ∷ [])) 1
   pub unexpandedAtSize : DiffersAt padding Expands (probe (On 1 (Credit 400) ∷ [])) 1
-  pub unexpandedValidated : DiffersAt padding Expands (run (start 1) (On 0 (Credit 401) ∷ On 0 (Receive 7) ∷ [])) 0
+  pub unexpandedValidated : DiffersAt padding Expands (run (start 1) (On 0 (Credit 401) ∷ [])) 0
   -- D34: an evicted path's received challenges are gone
   pub evicted : DiffersAt begun Unforgotten (probe (On 1 (Receive 7) ∷ [])) (record { pair = pairC; datagram = 1200 })
   -- D35: a client; D36: factor 4
   pub unlimited : DiffersAt wished Limits (fresh pairA 1200 1 3 false) (record { path = 0; length = 5 })
   pub fourTimes : DiffersAt arrived Three (fresh pairA 1200 1 4 true) (record { path = 0; length = 1 })
+  -- D40: max_datagram_size 0, with credit 3
+  pub expandedPast : DiffersAt padding ExpandsWithin (run (start 2) (Insert pairB 0 ∷ On 1 (Credit 1) ∷ [])) 1
+  -- D41: a second attempt fails by one loss; D42: a challenge is asked for on the path that was abandoned
+  pub failsAtOne : DiffersAt sent SingleLoss abandoned (record { path = 1; «data» = 9; size = 1200; now = 25000 })
+  pub asksAbandoned : DiffersAt fired AsksNoMore (probe eight) (record { path = 1; now = 25000 })
+  -- D43: the path migrated to is validated, and is active no more
+  pub inactive : DiffersAt response StaysActive (probe (On 0 (SetActive false) ∷ On 1 (SetActive true) ∷ sent early ∷ [])) (record { path = 1; «data» = 7; now = 0 })

@@ -9,24 +9,32 @@ use native.Mathlib.Nat.{mul-le-mul-right}
 use lib.ListN.{length, drop, getD}
 use lib.Seq.{getD-set-same}
 use lib.Dec.{eqb, leb, ltb}
-use borrow.Author.Tests.{leb-true, leb-false, ltb-true, ltb-false, eqb-false, le-leb, le-ltb, lt-ltb, lt-leb, eq-eqb, ne-eqb, not-false}
-use Rattle.lists.specs.Defs.{any, empty, front, least, somes, less, maybe}
+use borrow.Author.Tests.{leb-true, leb-false, ltb-true, ltb-false, eqb-true, eqb-false, le-leb, le-ltb, lt-ltb, lt-leb, eq-eqb, ne-eqb, not-false}
+use Rattle.lists.specs.Defs.{any, empty, front, maybe, least, less, somes}
+use Rattle.lists.specs.Bools.{and-both}
 use Rattle.values.specs.Limits.{maxPathChalsSent, maxProbingTimeouts, minClientInitialLen}
-use Rattle.paths_rules.specs.Path.{Path, Challenge, zeroPath, expire, probing, timeout, carries, unmatched, reached, largestAfter, respond, validated, allowed}
+use Rattle.paths_rules.specs.Path.{Path, Challenge, zeroPath, expire, probing, timeout, carries, matching, unmatched, lastSize, reached, largestAfter, challenge, respond, validated, validates}
 use Rattle.paths_rules.specs.Path.{promote, rankFailed, rankValidating, rankValidatingMTU, rankValidated, withActive, withSent, withAsk, withLost, due}
-use Rattle.paths_rules.specs.Table.{Table, Out, Answer, Nothing, Inserted, Number, Flag, Maybe, refused, accepted, pathAt, known, onPath, insert, timer}
+use Rattle.paths_rules.specs.Table.{Table, Out, Answer, Nothing, Inserted, Number, Flag, Maybe, refused, accepted, pathAt, known, onPath, insert, fresh, freshFormed, zeroTable, timer as timerOf}
 use Rattle.paths_rules.specs.Calls.{Act, Initiate, Pop, Receive, Send, Respond, Credit, Charge, SetScid, SetDcid, SetActive, Verify, Look, NeedsFrames}
-use Rattle.paths_rules.specs.Calls.{NeedsPadding, Call, On, step, effect, refusal, answer}
+use Rattle.paths_rules.specs.Calls.{NeedsPadding, Call, On, isMoment, step, after, run, effect, refusal, answer}
 use Rattle.paths_rules.specs.Steps.{both, decided, apply-is, act-holds, insert-holds, call-holds}
-use Rattle.paths_rules.specs.Frame.{only-verified, timeout-holds}
+use Rattle.paths_rules.specs.Frame.{only-verified, expire-holds, timeout-holds}
+use Rattle.paths_rules.specs.Well.{well}
+use Rattle.paths_rules.specs.Promise.{starts}
 use Rattle.paths_rules.specs.Proof.{demand3}
-use Rattle.paths_rules.specs.Rfc.{Begun, response, received, sent, arrived, wished, begun, answered, frames, padding, timed, itself, Rule, Met, MetUnless}
-use Rattle.paths_rules.specs.Rfc.{ThreeTimes, Three, largeFactor, Limits, onClient, Several, far, Expands, notTold, ExpandsWithin, ProbesAgain, OnlyExpanded}
+use Rattle.paths_rules.specs.Rfc.{Begun, Fired, response, received, sent, arrived, wished, begun, answered, frames, padding, timer, fired, itself, Rule, Met, MetUnless}
+use Rattle.paths_rules.specs.Rfc.{ThreeTimes, Three, largeFactor, Limits, onClient, permits, Several, far, smallestSize, Expands, notTold, ExpandsWithin, smallSize, ProbesAgain, expanded}
+use Rattle.paths_rules.specs.Rfc.{OnlyExpanded, remembers, NoneRemembered, alreadyOrRemembers, SingleLoss, lossesSurvive, TimerSet, ByTimer, AsksNoMore, asksStill, StaysActive, validatesSingle}
 use Rattle.paths_rules.specs.Rfc.{Keeps, eightStand, Unforgotten, atLimit, Echoes, OwnPath, Prompt, poor, Succeeds, AttemptEnds, already, AddressNotMtu}
-use Rattle.paths_rules.specs.Rfc.{OnlyByResponse, hasFailed, OnlyTimeoutFails, FailsAtEight, Abandons, TimerMoves, stuck, Conforms, Differs}
+use Rattle.paths_rules.specs.Rfc.{OnlyByResponse, hasFailed, OnlyTimeoutFails, Abandons, stuck, Conforms, Differs}
 
 never : {A : Type 0} → true ≡ false → A
 never e = let z : _≡_ {A = ℕ} 0 1 = cc in absurd (omega arith)
+
+or-neither : (a b : Bool) → (a || b) ≡ false → (a ≡ false) × (b ≡ false)
+or-neither true b e = never e
+or-neither false b e = (refl, e)
 
 -- a rule is met if the step meets it
 module _ {A : Type 0} (call : A → Call) (R : Rule A) where
@@ -95,29 +103,36 @@ limits = met-unless wished Limits onClient (λ t f e k v n a.
 several : MetUnless sent far Several
 several = met-unless sent Several far (λ t f e k l.
     let p : ℕ = f .path in
-    let a : Act = Send (f .token) (f .size) (f .now) in
+    let a : Act = Send (f .«data») (f .size) (f .now) in
     let z : refusal t p a ≡ 0 = rw (k, e, lt-leb maxPathChalsSent (length (pathAt p t .sent)) l) in
     (ap (λ (o : Out). o .refusal) (act-is t p a z), ap (λ (x : Path). x .sent) (path-is t p a k z)))
 
 expands : MetUnless padding notTold Expands
 expands = met-unless padding Expands notTold (λ t p e k h.
-    says t p (Look NeedsPadding) (ap (λ (b : Bool). cond b 0 2) k) ∙ ap Flag (told (validated (pathAt p t)) (t .server && leb (pathAt p t .credit) (pathAt p t .datagram)) e))
+    let x : Path = pathAt p t in
+    says t p (Look NeedsPadding) (ap (λ (b : Bool). cond b 0 2) k)
+    ∙ ap Flag (told (validated x) (t .server) (x .verified) (leb smallestSize (x .credit)) (leb (x .credit) (x .datagram)) e h))
   where
-    told : (a b : Bool) → (a || b) ≡ false → (not a && not b) ≡ true
-    told true b e = never e
-    told false true e = never e
-    told false false e = refl
+    told : (v s w a b : Bool) → (v || (s && w && b) || (s && not w && a && b)) ≡ false → (not s || w || a) ≡ true → (not v && not (s && b)) ≡ true
+    told true s w a b e h = never e
+    told false false w a b e h = refl
+    told false true w a false e h = refl
+    told false true true a true e h = never e
+    told false true false true true e h = never e
+    told false true false false true e h = never (sym h)
 
-expands-within : Met padding ExpandsWithin
-expands-within = met padding ExpandsWithin (λ t p s a.
+expands-within : MetUnless padding smallSize ExpandsWithin
+expands-within = met-unless padding ExpandsWithin smallSize (λ t p e a.
+    let x : Path = pathAt p t in
     let w = answers t p (Look NeedsPadding) (Flag true) refl (λ z. let y : _≡_ {A = ℕ} 0 1 = cc in omega arith) a in
-    test (validated (pathAt p t)) (t .server) (leb (pathAt p t .credit) (pathAt p t .datagram)) refl s (w .1))
+    test (x .credit) (x .datagram) (validated x) (t .server) (x .verified) (leb (x .credit) (x .datagram)) refl (ltb-false (x .datagram) smallestSize e) (w .1))
   where
-    test : {c d : ℕ} (v s b : Bool) → leb c d ≡ b → s ≡ true → Flag (not v && not (s && b)) ≡ Flag true → d ≤ c
-    test {c} {d} false true false h q e = omega (arith, leb-false c d h)
-    test false true true h q e = let z : _≡_ {A = ℕ} 0 1 = cc in absurd (omega arith)
-    test false false b h q e = never (sym q)
-    test true s b h q e = let z : _≡_ {A = ℕ} 0 1 = cc in absurd (omega arith)
+    test : (c d : ℕ) (v s w b : Bool) → leb c d ≡ b → smallestSize ≤ d → Flag (not v && not (s && b)) ≡ Flag true → (not s || w || leb smallestSize c) ≡ true
+    test c d v false w b h k e = refl
+    test c d v true true b h k e = refl
+    test c d v true false false h k e = le-leb smallestSize c (omega (arith, leb-false c d h))
+    test c d false true false true h k e = let z : _≡_ {A = ℕ} 0 1 = cc in absurd (omega arith)
+    test c d true true false true h k e = let z : _≡_ {A = ℕ} 0 1 = cc in absurd (omega arith)
 
 -- a response on a path not Validated: below 1200 it asks for another challenge, at 1200 or more it does not look at what stands
 responded : (P : Path → Type 0) (d : ℕ) (multi : Bool) (x : Path) → validated x ≡ false
@@ -129,8 +144,8 @@ responded P d multi x v h k =
 
 probes-again : Met response ProbesAgain
 probes-again = met response ProbesAgain (λ t f k v.
-    acted (λ (y : Path). y .largest < minClientInitialLen → y .ask ≡ true) t (f .path) (Respond (f .token) (f .now)) k refl
-    (responded (λ (y : Path). y .largest < minClientInitialLen → y .ask ≡ true) (f .token) (t .multipath) (pathAt (f .path) t) v
+    acted (λ (y : Path). y .largest < minClientInitialLen → y .ask ≡ true) t (f .path) (Respond (f .«data») (f .now)) k refl
+    (responded (λ (y : Path). y .largest < minClientInitialLen → y .ask ≡ true) (f .«data») (t .multipath) (pathAt (f .path) t) v
     (λ h l. absurd (omega arith)) (λ h l. refl)))
 
 -- Validated only with 1200 or more; and only by a response
@@ -163,45 +178,92 @@ only-by-response t c h f p response v =
     act Verify z e = v
     act (Look r) z e = v
 
--- Validated with a size of 1200 or more, or not Validated
-abbrev Expanded : Path → Type 0
-Expanded x = validated x ≡ true → minClientInitialLen ≤ x .largest
+-- the last match was sent in a datagram of 1200 bytes or more: then one such match stands
+last-expanded : (d z : ℕ) (l : List Challenge) → z < smallestSize → smallestSize ≤ lastSize z (matching d l)
+    → any (λ (c : Challenge). carries d c && leb smallestSize (c .size)) l ≡ true
+last-expanded d z [] h k = absurd (omega arith)
+last-expanded d z (c ∷ cs) h k = test (carries d c) (leb smallestSize (c .size)) refl (λ y. last-expanded d y cs) k
+  where
+    rest : Bool
+    rest = any (λ (c : Challenge). carries d c && leb smallestSize (c .size)) cs
 
-closed : (x : Path) → Open x → Expanded x
-closed x v e = never (sym e ∙ v)
+    test : (a b : Bool) → leb smallestSize (c .size) ≡ b → ((y : ℕ) → y < smallestSize → smallestSize ≤ lastSize y (matching d cs) → rest ≡ true)
+        → smallestSize ≤ lastSize z (cond a (c ∷ matching d cs) (matching d cs)) → ((a && b) || rest) ≡ true
+    test true true e r k = refl
+    test true false e r k = r (c .size) (leb-false smallestSize (c .size) e) k
+    test false b e r k = r z h k
 
-only-expanded : Met itself OnlyExpanded
-only-expanded t c h f p v =
-    call-holds Expanded p t (closed (pathAt p t) v) (λ a x k. k) (λ x k. k) c
-    (λ now e. timeout-holds Expanded (λ w x k. k) (λ x k. k) (λ n x k. k) (λ x k z. never (sym z)) now) act (λ a m i e z. never (sym z))
+only-expanded : MetUnless response remembers OnlyExpanded
+only-expanded = met-unless response OnlyExpanded remembers (λ t f e v.
+    let x : Path = pathAt (f .path) t in
+    let P : Path → Type 0 = λ y. validated y ≡ true → expanded t (f .path) (f .«data») ≡ true in
+    act-holds P (f .path) t (λ w. never (sym w ∙ v)) (f .path) (Respond (f .«data») (f .now))
+    (λ z s. responded P (f .«data») (t .multipath) x v
+    (λ h w. last-expanded (f .«data») 0 (x .sent) (omega arith) (omega (arith, leb-false smallestSize (x .largest) e)))
+    (λ h w. never (sym w ∙ not-raised (x .rank) rankValidatingMTU (omega arith) v))))
+
+-- of a path from a fresh table: a rank of those that have a name, and below Validated a largest size below 1200
+abbrev Forgets : Path → Type 0
+Forgets x = (x .rank ≤ rankValidated) × (x .rank < rankValidated → x .largest < smallestSize)
+
+forgets-timeout : (now : ℕ) (x : Path) → Forgets x → Forgets (timeout now x)
+forgets-timeout now x k = decided Forgets (probing x) (λ e. let w = expire-holds Q (λ v y h. h) (λ y h. h) (λ n y h. h) (λ y h. (omega arith, h .1)) now (x .sent) x (k .0, k .1 (below (x .rank) e)) in (w .0, λ r. w .1)) (λ e. k)
+  where
+    Q : Path → Type 0
+    Q y = (y .rank ≤ rankValidated) × (y .largest < smallestSize)
+
+    below : (r : ℕ) → (eqb r rankValidating || eqb r rankValidatingMTU) ≡ true → r < rankValidated
+    below r e = test (eqb r rankValidating) (eqb r rankValidatingMTU) refl refl e
+      where
+        test : (a b : Bool) → eqb r rankValidating ≡ a → eqb r rankValidatingMTU ≡ b → (a || b) ≡ true → r < rankValidated
+        test true b g h e = omega (arith, eqb-true r rankValidating g)
+        test false true g h e = omega (arith, eqb-true r rankValidatingMTU h)
+        test false false g h e = never (sym e)
+
+forgets-call : (p : ℕ) (t : Table) (c : Call) → Forgets (pathAt p t) → Forgets (pathAt p (after t c))
+forgets-call p t c k = call-holds Forgets p t k (λ a x h. h) (λ x h. h) c (λ now e. forgets-timeout now) act (λ a m i e. (omega arith, λ r. omega arith))
   where
     x : Path
     x = pathAt p t
 
-    k : Expanded (pathAt p t)
-    k = closed (pathAt p t) v
-
-    act : (a : Act) → refusal t p a ≡ 0 → c ≡ On p a → Expanded (effect t a (pathAt p t))
+    act : (a : Act) → refusal t p a ≡ 0 → c ≡ On p a → Forgets (effect t a (pathAt p t))
     act Initiate z e = k
     act Pop z e = k
     act (Receive d) z e = k
-    act (Send d size now) z e = λ q. never (sym q ∙ not-raised (x .rank) rankValidating (omega arith) v)
+    act (Send d size now) z e = (omega (arith, k .0), λ r. k .1 (omega arith))
     act (Respond d now) z e =
-        responded Expanded d (t .multipath) x v (λ q w. q) (λ q w. never (sym w ∙ not-raised (x .rank) rankValidatingMTU (omega arith) v))
-    act (Credit n) z e = both Expanded (t .server) (both Expanded (pathAt p t .verified) k k) k
-    act (Charge n) z e = both Expanded (t .server) (both Expanded (pathAt p t .verified) k k) k
+        decided Forgets (validated x) (λ v. k)
+        (λ v. decided Forgets (leb minClientInitialLen (largestAfter d x))
+        (λ q. (omega (arith, k .0), λ r. absurd (omega arith)))
+        (λ q. (omega (arith, k .0), λ r. leb-false minClientInitialLen (largestAfter d x) q)))
+    act (Credit n) z e = both Forgets (t .server) (both Forgets (pathAt p t .verified) k k) k
+    act (Charge n) z e = both Forgets (t .server) (both Forgets (pathAt p t .verified) k k) k
     act (SetScid o) z e = k
     act (SetDcid o) z e = k
     act (SetActive b) z e = k
     act Verify z e = k
     act (Look r) z e = k
 
+forgets-run : (p : ℕ) (cs : List Call) (t : Table) → Forgets (pathAt p t) → Forgets (pathAt p (run t cs))
+forgets-run p [] t k = k
+forgets-run p (c ∷ cs) t k = forgets-run p cs (after t c) (forgets-call p t c k)
+
+none-remembered : NoneRemembered
+none-remembered s g t (starts a m limit e) cs f v =
+    let k = forgets-run (f .path) cs t (first (freshFormed a limit) (f .path)) in
+    lt-leb smallestSize (pathAt (f .path) (run t cs) .largest) (k .1 (omega (arith, k .0, eqb-false (pathAt (f .path) (run t cs) .rank) rankValidated v)))
+  where
+    first : (b : Bool) (p : ℕ) → Forgets (pathAt p (cond b (accepted Nothing (fresh a m limit g s)) (refused 1 zeroTable) .table))
+    first false p = (omega arith, λ r. omega arith)
+    first true zero = (omega arith, λ r. absurd (omega arith))
+    first true (suc p) = (omega arith, λ r. omega arith)
+
 -- ---- 8.2.2
 
 keeps : MetUnless received eightStand Keeps
 keeps = met-unless received Keeps eightStand (λ t f e k.
-    acted (λ (y : Path). y .received ≡ pathAt (f .path) t .received ++ (f .token ∷ [])) t (f .path) (Receive (f .token)) k refl
-    (ap (λ (b : Bool). cond b (drop 1 (pathAt (f .path) t .received)) (pathAt (f .path) t .received) ++ (f .token ∷ [])) e))
+    acted (λ (y : Path). y .received ≡ pathAt (f .path) t .received ++ (f .«data» ∷ [])) t (f .path) (Receive (f .«data»)) k refl
+    (ap (λ (b : Bool). cond b (drop 1 (pathAt (f .path) t .received)) (pathAt (f .path) t .received) ++ (f .«data» ∷ [])) e))
 
 unforgotten : MetUnless begun atLimit Unforgotten
 unforgotten = met-unless begun Unforgotten atLimit (λ t f e p k.
@@ -224,7 +286,7 @@ echoes = met answered Echoes (λ t p d a.
 
 own-path : Met received OwnPath
 own-path = met received OwnPath (λ t f p n.
-    act-holds (λ (y : Path). y ≡ pathAt p t) p t refl (f .path) (Receive (f .token)) (λ z e. absurd (n e)))
+    act-holds (λ (y : Path). y ≡ pathAt p t) p t refl (f .path) (Receive (f .«data»)) (λ z e. absurd (n e)))
 
 prompt : MetUnless frames poor Prompt
 prompt = met-unless frames Prompt poor (λ t p e k r.
@@ -240,8 +302,8 @@ prompt = met-unless frames Prompt poor (λ t p e k r.
 
 succeeds : MetUnless response already Succeeds
 succeeds = met-unless response Succeeds already (λ t f v k m.
-    acted (λ (y : Path). y .verified ≡ true) t (f .path) (Respond (f .token) (f .now)) k refl
-    (responded (λ (y : Path). y .verified ≡ true) (f .token) (t .multipath) (pathAt (f .path) t) v (λ h. refl) (λ h. refl)))
+    acted (λ (y : Path). y .verified ≡ true) t (f .path) (Respond (f .«data») (f .now)) k refl
+    (responded (λ (y : Path). y .verified ≡ true) (f .«data») (t .multipath) (pathAt (f .path) t) v (λ h. refl) (λ h. refl)))
 
 none-left : (d : ℕ) (l : List Challenge) → any (carries d) (unmatched d l) ≡ false
 none-left d [] = refl
@@ -253,21 +315,31 @@ none-left d (c ∷ cs) = test (carries d c) refl (none-left d cs)
 
 attempt-ends : MetUnless response already AttemptEnds
 attempt-ends = met-unless response AttemptEnds already (λ t f v k.
-    acted (λ (y : Path). any (carries (f .token)) (y .sent) ≡ false) t (f .path) (Respond (f .token) (f .now)) k refl
-    (responded (λ (y : Path). any (carries (f .token)) (y .sent) ≡ false) (f .token) (t .multipath) (pathAt (f .path) t) v
-    (λ h. refl) (λ h. none-left (f .token) (pathAt (f .path) t .sent))))
+    acted (λ (y : Path). any (carries (f .«data»)) (y .sent) ≡ false) t (f .path) (Respond (f .«data») (f .now)) k refl
+    (responded (λ (y : Path). any (carries (f .«data»)) (y .sent) ≡ false) (f .«data») (t .multipath) (pathAt (f .path) t) v
+    (λ h. refl) (λ h. none-left (f .«data») (pathAt (f .path) t .sent))))
 
-address-not-mtu : Met response AddressNotMtu
-address-not-mtu = met response AddressNotMtu (λ t f k v l.
-    let x : Path = pathAt (f .path) t in
-    let P : Path → Type 0 = λ y. (y .verified ≡ true) × (validated y ≡ false) × ((wish : ℕ) → allowed (t .server) wish y ≡ wish) in
-    acted P t (f .path) (Respond (f .token) (f .now)) k refl
-    (responded P (f .token) (t .multipath) x v (λ h. absurd (omega arith))
-    (λ h. (refl, not-raised (x .rank) rankValidatingMTU (omega arith) v, λ w. lifted (t .server) w (x .credit)))))
+-- a verified address has no limit
+lifted : (t : Table) (p n : ℕ) → pathAt p t .verified ≡ true → permits t p n ≡ true
+lifted t p n e = test (t .server) (pathAt p t .verified) e
   where
-    lifted : (s : Bool) (w c : ℕ) → cond (s && false) (min w c) w ≡ w
-    lifted true w c = refl
-    lifted false w c = refl
+    test : (s v : Bool) → v ≡ true → (not s || v || leb n (pathAt p t .credit)) ≡ true
+    test false v e = refl
+    test true true e = refl
+    test true false e = never (sym e)
+
+address-not-mtu : MetUnless response alreadyOrRemembers AddressNotMtu
+address-not-mtu = met-unless response AddressNotMtu alreadyOrRemembers (λ t f e k m n.
+    let x : Path = pathAt (f .path) t in
+    let d : ℕ = f .«data» in
+    let w = or-neither (already t f) (remembers t f) e in
+    let P : Path → Type 0 = λ y. (y .verified ≡ true) × (validated y ≡ false) in
+    let u : P (pathAt (f .path) (step t (response f) .table)) =
+    acted P t (f .path) (Respond d (f .now)) k refl
+    (responded P d (t .multipath) x (w .0)
+    (λ h. never (sym (last-expanded d 0 (x .sent) (omega arith) (omega (arith, leb-false smallestSize (x .largest) (w .1)))) ∙ n))
+    (λ h. (refl, not-raised (x .rank) rankValidatingMTU (omega arith) (w .0)))) in
+    (u .0, u .1, λ b. lifted (step t (response f) .table) (f .path) b (u .0)))
 
 -- ---- 8.2.4
 
@@ -302,27 +374,52 @@ only-timeout-fails t c h f p other g =
     act Verify z e = g
     act (Look r) z e = g
 
--- failed, with eight lost; or going on
-abbrev Lost : Path → Type 0
-Lost x = hasFailed x ≡ true → maxProbingTimeouts ≤ x .lost
-
-expire-lost : (now : ℕ) (cs : List Challenge) (x : Path) → Going x → Lost (expire now cs x)
-expire-lost now [] x g = λ e. never (sym e ∙ g)
-expire-lost now (c ∷ cs) x g =
-    both Lost (leb (c .deadline) now)
-    (decided Lost (ltb (x .lost + 1) maxProbingTimeouts) (λ e. expire-lost now cs (withAsk true (withLost (x .lost + 1) x)) g) (λ e w. ltb-false (x .lost + 1) maxProbingTimeouts e))
-    (λ e. never (sym e ∙ g))
-
 -- the path p after a timeout
 timed-is : (now : ℕ) (l : List Path) (p : ℕ) → getD (map (timeout now) l) p zeroPath ≡ timeout now (getD l p zeroPath)
 timed-is now [] p = refl
 timed-is now (x ∷ l) zero = refl
 timed-is now (x ∷ l) (suc p) = timed-is now l p
 
-fails-at-eight : Met timed FailsAtEight
-fails-at-eight = met timed FailsAtEight (λ t now p g.
-    subst Lost (sym (timed-is now (t .paths) p))
-    (both Lost (probing (pathAt p t)) (expire-lost now (pathAt p t .sent) (pathAt p t) g) (λ e. never (sym e ∙ g))))
+-- the path of a timer after it was looked at
+fired-holds : (P : Path → Type 0) (t : Table) (f : Fired) → P (timeout (f .now) (pathAt (f .path) t)) → P (pathAt (f .path) (step t (fired f) .table))
+fired-holds P t f h = subst P (sym (timed-is (f .now) (t .paths) (f .path))) h
+
+-- one loss, and fewer than seven before it
+one-lost : (now : ℕ) (c : Challenge) (x : Path) → Going x → x .lost + 1 < maxProbingTimeouts → Going (expire now (c ∷ []) x)
+one-lost now c x g l =
+    both Going (leb (c .deadline) now) (decided Going (ltb (x .lost + 1) maxProbingTimeouts) (λ e. g) (λ e. absurd (omega (arith, ltb-false (x .lost + 1) maxProbingTimeouts e)))) g
+
+empty-is : {A : Type 0} (l : List A) → empty l ≡ true → l ≡ []
+empty-is [] e = refl
+empty-is (x ∷ l) e = never (sym e)
+
+single-loss : MetUnless sent lossesSurvive SingleLoss
+single-loss = met-unless sent SingleLoss lossesSurvive (λ t f e i r now.
+    let p : ℕ = f .path in
+    let x : Path = pathAt p t in
+    let a : Act = Send (f .«data») (f .size) (f .now) in
+    let u : Table = step t (sent f) .table in
+    let z : refusal t p a ≡ 0 = accepted-is (refusal t p a) (accepted (answer t p a) (onPath p (effect t a) t)) t r in
+    let k : known p t ≡ true = known-is (known p t) _ z in
+    let y : Path = effect t a x in
+    let g : Going y = ne-eqb (max (x .rank) rankValidating) rankFailed (λ q. omega arith) in
+    let h : Going (expire now (y .sent) y) =
+    subst (λ (l : List Challenge). Going (expire now (l ++ (challenge (f .«data») (f .size) (f .now) (x .lost) ∷ [])) y)) (sym (empty-is (x .sent) (and-both (empty (x .sent)) _ i .0)))
+    (one-lost now (challenge (f .«data») (f .size) (f .now) (x .lost)) y g (leb-false maxProbingTimeouts (x .lost + 1) e)) in
+    both (λ (o : Out). Going (pathAt p (o .table))) (well u && isMoment now)
+    (subst Going (sym (timed-is now (u .paths) p)) (subst (λ (v : Path). Going (timeout now v)) (sym (path-is t p a k z)) (both Going (probing y) h g)))
+    (subst Going (sym (path-is t p a k z)) g))
+  where
+    accepted-is : (n : ℕ) (o : Out) (w : Table) → cond (eqb n 0) o (refused n w) .refusal ≡ 0 → n ≡ 0
+    accepted-is n o w = test (eqb n 0) refl
+      where
+        test : (b : Bool) → eqb n 0 ≡ b → cond b o (refused n w) .refusal ≡ 0 → n ≡ 0
+        test true q e = eqb-true n 0 q
+        test false q e = e
+
+    known-is : (b : Bool) (n : ℕ) → cond (not b) 2 n ≡ 0 → b ≡ true
+    known-is true n e = refl
+    known-is false n e = absurd (omega arith)
 
 -- the front's deadline has come, and it is the eighth loss
 fails : (now : ℕ) (l : List Challenge) (x : Path) (c : Challenge) → front l ≡ some c → c .deadline ≤ now → maxProbingTimeouts ≤ x .lost + 1
@@ -334,11 +431,18 @@ fails now (b ∷ cs) x c e k m =
     let g : ltb (x .lost + 1) maxProbingTimeouts ≡ false = le-ltb (x .lost + 1) maxProbingTimeouts m in
     rw (h, g) (refl, refl, refl)
 
-abandons : Met timed Abandons
-abandons = met timed Abandons (λ t now p c k r e d m.
+abandons : Met fired Abandons
+abandons = met fired Abandons (λ t f c r e d m.
+    let x : Path = pathAt (f .path) t in
     let P : Path → Type 0 = λ y. (hasFailed y ≡ true) × (y .active ≡ false) × (y .sent ≡ []) in
-    subst P (sym (timed-is now (t .paths) p))
-    (decided P (probing (pathAt p t)) (λ q. fails now (pathAt p t .sent) (pathAt p t) c e d m) (λ q. never (sym r ∙ q))))
+    fired-holds P t f (decided P (probing x) (λ q. fails (f .now) (x .sent) x c e d m) (λ q. never (sym r ∙ q))))
+
+-- a loss that does not fail the path asks for a challenge, and so it stays
+asks : (now : ℕ) (cs : List Challenge) (x : Path) → x .ask ≡ true → expire now cs x .ask ≡ true
+asks now [] x a = a
+asks now (c ∷ cs) x a =
+    let P : Path → Type 0 = λ y. y .ask ≡ true in
+    both P (leb (c .deadline) now) (both P (ltb (x .lost + 1) maxProbingTimeouts) (asks now cs (withAsk true (withLost (x .lost + 1) x)) refl) a) a
 
 -- what is due after a timeout is later than now
 abbrev Later : ℕ → Path → Type 0
@@ -352,49 +456,91 @@ expire-later now (c ∷ cs) x =
     (λ m q. let z : _≡_ {A = ℕ} 0 1 = cc in absurd (omega arith)))
     (λ e m q. let z : c .deadline ≡ m = cc in omega (arith, leb-false (c .deadline) now e))
 
-timeout-later : (now : ℕ) (x : Path) → (not (probing x) && not (empty (x .sent))) ≡ false → Later now (timeout now x)
-timeout-later now x h = decided (Later now) (probing x) (λ e. expire-later now (x .sent) x) (λ e. idle (x .sent) (sym (ap (λ (b : Bool). not b && not (empty (x .sent))) e) ∙ h))
+-- at most d, and there is one
+abbrev By : ℕ → Option ℕ → Type 0
+By d o = (o ≡ none → ⊥) × ((m : ℕ) → o ≡ some m → m ≤ d)
+
+by-some : (d n : ℕ) → n ≤ d → By d (some n)
+by-some d n h = (λ e. let z : _≡_ {A = ℕ} 0 1 = cc in omega arith, λ m e. let z : n ≡ m = cc in omega arith)
+
+timer-by : (l : List Path) (p : ℕ) (c : Challenge) → front (getD l p zeroPath .sent) ≡ some c → By (c .deadline) (timerOf l)
+timer-by [] p c e = let z : _≡_ {A = ℕ} 0 1 = cc in absurd (omega arith)
+timer-by (x ∷ l) zero c e =
+    subst (λ (o : Option Challenge). By (c .deadline) (least (somes (maybe o none (λ y. some (y .deadline)) ∷ map due l)))) (sym e) (first (timerOf l))
   where
-    idle : (l : List Challenge) → not (empty l) ≡ false → (m : ℕ) → maybe (front l) none (λ c. some (c .deadline)) ≡ some m → now < m
-    idle [] e m q = let z : _≡_ {A = ℕ} 0 1 = cc in absurd (omega arith)
-    idle (c ∷ cs) e m q = never e
-
-or-neither : (a b : Bool) → (a || b) ≡ false → (a ≡ false) × (b ≡ false)
-or-neither true b e = never e
-or-neither false b e = (refl, e)
-
-timers-later : (now : ℕ) (l : List Path) → any (λ (x : Path). not (probing x) && not (empty (x .sent))) l ≡ false
-    → (m : ℕ) → timer (map (timeout now) l) ≡ some m → now < m
-timers-later now [] h m e = let z : _≡_ {A = ℕ} 0 1 = cc in absurd (omega arith)
-timers-later now (x ∷ l) h m e =
-    let w = or-neither (not (probing x) && not (empty (x .sent))) _ h in
-    test (due (timeout now x)) (timer (map (timeout now) l)) (timeout-later now x (w .0)) (timers-later now l (w .1)) m
-    (sym (first-of (due (timeout now x)) (map due (map (timeout now) l))) ∙ e)
+    first : (o : Option ℕ) → By (c .deadline) (less o (c .deadline))
+    first none = by-some (c .deadline) (c .deadline) (omega arith)
+    first (some n) = by-some (c .deadline) (min n (c .deadline)) (omega arith)
+timer-by (x ∷ l) (suc p) c e = test (due x) (timer-by l p c e)
   where
-    lesser : Option ℕ → Option ℕ → Option ℕ
-    lesser o none = o
-    lesser none (some n) = some n
-    lesser (some k) (some n) = some (min n k)
+    more : (k : ℕ) (o : Option ℕ) → By (c .deadline) o → By (c .deadline) (less o k)
+    more k none h = absurd (h .0 refl)
+    more k (some n) h = by-some (c .deadline) (min n k) (omega (arith, h .1 n refl))
 
-    first-of : (o : Option ℕ) (os : List (Option ℕ)) → least (somes (o ∷ os)) ≡ lesser o (least (somes os))
-    first-of none os = none-first (least (somes os))
-      where
-        none-first : (o : Option ℕ) → o ≡ lesser none o
-        none-first none = refl
-        none-first (some n) = refl
-    first-of (some k) os = some-first (least (somes os))
-      where
-        some-first : (o : Option ℕ) → less o k ≡ lesser (some k) o
-        some-first none = refl
-        some-first (some n) = refl
+    test : (o : Option ℕ) → By (c .deadline) (timerOf l) → By (c .deadline) (least (somes (o ∷ map due l)))
+    test none h = h
+    test (some k) h = more k (timerOf l) h
 
-    test : (o q : Option ℕ) → ((m : ℕ) → o ≡ some m → now < m) → ((m : ℕ) → q ≡ some m → now < m) → (m : ℕ) → lesser o q ≡ some m → now < m
-    test o none f g m e = f m e
-    test none (some n) f g m e = g m e
-    test (some k) (some n) f g m e = let z : min n k ≡ m = cc in omega (arith, f k refl, g n refl)
+timer-set : Met timer TimerSet
+timer-set = met timer TimerSet (λ t p c e.
+    let w = timer-by (t .paths) p c e in
+    (λ a. w .0 (inside (timerOf (t .paths)) none a), λ m a. w .1 m (inside (timerOf (t .paths)) (some m) a)))
+  where
+    inside : (o u : Option ℕ) → Maybe o ≡ Maybe u → o ≡ u
+    inside o u a = cc
 
-timer-moves : MetUnless timed stuck TimerMoves
-timer-moves = met-unless timed TimerMoves stuck (λ t now e. timers-later now (t .paths) e)
+by-timer : MetUnless fired stuck ByTimer
+by-timer = met-unless fired ByTimer stuck (λ t f e c h d.
+    let x : Path = pathAt (f .path) t in
+    let P : Path → Type 0 = λ y. ((hasFailed y || y .ask) ≡ true) × ((m : ℕ) → due y ≡ some m → f .now < m) in
+    fired-holds P t f (decided P (probing x)
+    (λ q. (given-up (f .now) (x .sent) x c h d, expire-later (f .now) (x .sent) x)) (λ q. never (sym (ap not q) ∙ e))))
+  where
+    either : (a b : Bool) → b ≡ true → (a || b) ≡ true
+    either true b e = refl
+    either false b e = e
+
+    given-up : (now : ℕ) (l : List Challenge) (x : Path) (c : Challenge) → front l ≡ some c → c .deadline ≤ now → (hasFailed (expire now l x) || expire now l x .ask) ≡ true
+    given-up now [] x c e d = let z : _≡_ {A = ℕ} 0 1 = cc in absurd (omega arith)
+    given-up now (b ∷ cs) x c e d =
+        let z : b ≡ c = cc in
+        let P : Path → Type 0 = λ y. (hasFailed y || y .ask) ≡ true in
+        decided P (leb (b .deadline) now)
+        (λ q. both P (ltb (x .lost + 1) maxProbingTimeouts) (let y : Path = withAsk true (withLost (x .lost + 1) x) in either (hasFailed (expire now cs y)) (expire now cs y .ask) (asks now cs y refl)) refl)
+        (λ q. never (sym (le-leb (b .deadline) now (rw z d)) ∙ q))
+
+asks-no-more : MetUnless fired asksStill AsksNoMore
+asks-no-more = met-unless fired AsksNoMore asksStill (λ t f e g.
+    let x : Path = pathAt (f .path) t in
+    let P : Path → Type 0 = λ y. hasFailed y ≡ true → y .ask ≡ false in
+    let w = or-neither (x .ask) (leb 2 (length (x .sent))) e in
+    fired-holds P t f (both P (probing x) (few (f .now) (x .sent) x g (w .0) (leb-false 2 (length (x .sent)) (w .1))) (λ q. w .0)))
+  where
+    few : (now : ℕ) (l : List Challenge) (x : Path) → Going x → x .ask ≡ false → length l < 2 → hasFailed (expire now l x) ≡ true → expire now l x .ask ≡ false
+    few now [] x g a k = λ q. a
+    few now (b ∷ []) x g a k =
+        let P : Path → Type 0 = λ y. hasFailed y ≡ true → y .ask ≡ false in
+        both P (leb (b .deadline) now) (both P (ltb (x .lost + 1) maxProbingTimeouts) (λ q. never (sym q ∙ g)) (λ q. a)) (λ q. a)
+    few now (b ∷ c ∷ l) x g a k = absurd (omega arith)
+
+-- ---- 9.3
+
+stays-active : MetUnless response validatesSingle StaysActive
+stays-active = met-unless response StaysActive validatesSingle (λ t f e p a.
+    act-holds (λ (y : Path). y .active ≡ true) p t a (f .path) (Respond (f .«data») (f .now))
+    (λ z s. stays (f .«data») (t .multipath) (pathAt (f .path) t) e (rw s a)))
+  where
+    on : (m v b : Bool) → (not m && (not v && b)) ≡ false → v ≡ false → b ≡ true → m ≡ true
+    on true v b e g h = refl
+    on false true b e g h = never g
+    on false false true e g h = never e
+    on false false false e g h = never (sym h)
+
+    stays : (d : ℕ) (multi : Bool) (x : Path) → (not multi && validates d x) ≡ false → x .active ≡ true → respond d multi x .active ≡ true
+    stays d multi x e a =
+        let P : Path → Type 0 = λ y. y .active ≡ true in
+        decided P (validated x) (λ v. a)
+        (λ v. decided P (leb minClientInitialLen (largestAfter d x)) (λ q. on multi (validated x) (leb minClientInitialLen (largestAfter d x)) e v q) (λ q. a))
 
 -- ---- the whole
 
@@ -408,6 +554,7 @@ conforms = record {
   expandsWithin = expands-within;
   probesAgain = probes-again;
   onlyExpanded = only-expanded;
+  noneRemembered = none-remembered;
   keeps = keeps;
   unforgotten = unforgotten;
   echoes = echoes;
@@ -419,9 +566,12 @@ conforms = record {
   onlyVerified = only-verified;
   onlyByResponse = only-by-response;
   onlyTimeoutFails = only-timeout-fails;
-  failsAtEight = fails-at-eight;
+  singleLoss = single-loss;
+  timerSet = timer-set;
+  byTimer = by-timer;
   abandons = abandons;
-  timerMoves = timer-moves;
+  asksNoMore = asks-no-more;
+  staysActive = stays-active;
 }
 
 pub differs : Differs
@@ -429,11 +579,13 @@ differs = record {
   withoutData = λ r. never (r refl);
   otherPath = λ r. never (sym (r 1 refl));
   ninth = λ r. let e = r refl in let z : _≡_ {A = ℕ} 0 1 = cc in omega arith;
-  soon = λ r. never (r 1 refl refl);
+  soon = λ r. never (r refl refl);
+  often = λ r. never (r refl refl);
+  aggressive = λ r. never (sym r);
   tooLate = λ r. never (sym (r refl refl (omega arith)));
   staysMatched = λ r. never (r refl);
   staysUnverified = λ r. never (sym (r refl refl));
-  staysDue = λ r. omega (arith, r 25000 refl);
+  staysDue = λ r. never (sym (r _ refl (omega arith) .0));
   delayed = λ r. let e = r refl refl in let z : _≡_ {A = ℕ} 0 1 = cc in omega arith;
   unexpanded = λ r. let e = r refl refl in let z : _≡_ {A = ℕ} 0 1 = cc in omega arith;
   unexpandedAtSize = λ r. let e = r refl refl in let z : _≡_ {A = ℕ} 0 1 = cc in omega arith;
@@ -441,4 +593,8 @@ differs = record {
   evicted = λ r. let e = r 1 (omega arith) in let z : _≡_ {A = ℕ} 0 1 = cc in omega arith;
   unlimited = λ r. omega (arith, r refl refl 5 refl);
   fourTimes = λ r. omega (arith, r);
+  expandedPast = λ r. never (sym (r refl));
+  failsAtOne = λ r. never (r refl refl 6425000);
+  asksAbandoned = λ r. never (r refl refl);
+  inactive = λ r. never (sym (r 1 refl));
 }
