@@ -34,7 +34,7 @@ new a = record { pair = a; datagram = 1200; scid = none; dcid = none; active = f
 abbrev b : Path
 b = new pairB
 
-abbrev chal : ℕ → ℕ → ℕ → ℕ → Challenge
+abbrev pub chal : ℕ → ℕ → ℕ → ℕ → Challenge
 chal d size sent deadline = record { token = d; size = size; sent = sent; deadline = deadline }
 
 -- n challenges that stand, with the data 1
@@ -58,7 +58,7 @@ multi l = record { paths = l; limit = 3; factor = 3; multipath = true; server = 
 abbrev holds : Path → Table
 holds x = serving (zeroth ∷ x ∷ [])
 
-abbrev row : Table → Call → Out → Row
+abbrev pub row : Table → Call → Out → Row
 row t c o = record { before = t; call = c; gives = o }
 
 -- an act on path 1 makes x into y; it answers; it is refused
@@ -72,10 +72,10 @@ abbrev not : Path → Act → ℕ → Row
 not x a n = row (holds x) (On 1 a) (refused n (holds x))
 
 -- a call that leaves the table, and one that is refused
-abbrev reads : Table → Call → Answer → Row
+abbrev pub reads : Table → Call → Answer → Row
 reads t c r = row t c (accepted r t)
 
-abbrev refuses : Table → Call → ℕ → Row
+abbrev pub refuses : Table → Call → ℕ → Row
 refuses t c n = row t c (refused n t)
 
 abbrev pub outcome : Row → Out
@@ -84,7 +84,7 @@ outcome r = apply (r .before) (r .call)
 abbrev pub expected : Row → Out
 expected r = r .gives
 
-abbrev Holds : List Row → Type 0
+abbrev pub Holds : List Row → Type 0
 Holds l = map outcome l ≡ map expected l
 
 -- ---- unknown ids: 2, or accepted with nothing changed; an id just below the count
@@ -110,7 +110,7 @@ at4 ip flow scope kind = record { ip = ip; flow = flow; scope = scope; port = 44
 abbrev ip4 : List ℕ
 ip4 = 10 ∷ 0 ∷ 0 ∷ 1 ∷ replicate 12 0
 
-abbrev badAddresses : List Address
+abbrev pub badAddresses : List Address
 badAddresses = at4 ip4 0 0 0 ∷ at4 ip4 0 0 5 ∷ at4 ip4 0 0 7 ∷ at4 (10 ∷ 0 ∷ 0 ∷ 1 ∷ 1 ∷ replicate 11 0) 0 0 4
     ∷ at4 (10 ∷ 0 ∷ 0 ∷ 1 ∷ replicate 11 0 ++ (1 ∷ [])) 0 0 4 ∷ at4 ip4 1 0 4 ∷ at4 ip4 0 1 4 ∷ []
 

@@ -7,7 +7,7 @@ use mathlib.Core.Option.{none, some}
 use native.Mathlib.Omega.{arith}
 use lib.Dec.{eqb}
 use borrow.Author.Tests.{eq-eqb}
-use Rattle.paths_rules.specs.Table.{Table, Answer, Nothing, Inserted, Responded, Number, Flag, Maybe, Place, Whole, Found, pathAt}
+use Rattle.paths_rules.specs.Table.{Table, Answer, Nothing, Inserted, Responded, Number, Flag, Maybe, Place, Whole, Found, pathAt, fresh}
 use Rattle.paths_rules.specs.Calls.{Call, On, Insert, Timeout, Ping, Ask, Len, Look, Get, Allowed, Receive, Send, Respond, Credit, Charge, SetDcid, SetActive}
 use Rattle.paths_rules.specs.Calls.{Verify, apply, after, run}
 use Rattle.paths_rules.specs.Promise.{starts, totalCredit, totalCharge, Lasts, Within, Begins, first, inserted}
@@ -95,3 +95,34 @@ large = (refl, refl, refl)
 
 pub large-concluded : totalCharge 0 largeCalls ≤ 3 * totalCredit 0 largeCalls
 large-concluded = demand3 3 0 server (first server (starts pairA 1200 3 refl)) largeCalls large-lasts (omega arith) .0
+
+-- ---- factor x credited is exactly 2^64-1: both conclusions hold, and the last byte may be charged
+
+abbrev pub edgeCalls : List Call
+edgeCalls = On 0 (Credit 6148914691236517204) ∷ On 0 (Credit 1) ∷ On 0 (Charge (2 ^ 64 - 2)) ∷ []
+
+pub edge-lasts : Lasts 0 server edgeCalls
+edge-lasts = lasting-is 0 edgeCalls server refl
+
+pub edge : (3 * totalCredit 0 edgeCalls ≡ 2 ^ 64 - 1) × (totalCharge 0 edgeCalls ≡ 2 ^ 64 - 2)
+edge = (refl, refl)
+
+pub edge-concluded : (totalCharge 0 edgeCalls ≤ 3 * totalCredit 0 edgeCalls) × (pathAt 0 (run server edgeCalls) .credit ≡ 1)
+edge-concluded = let d = demand3 3 0 server (first server (starts pairA 1200 3 refl)) edgeCalls edge-lasts (omega arith) in (d .0, d .1 (omega arith))
+
+-- ---- and with factor 4 exactly 2^64: the first holds still, and the second no longer, since the credit stopped at 2^64-1
+
+abbrev pub quick : Table
+quick = fresh pairA 1200 3 4 true
+
+abbrev pub overCalls : List Call
+overCalls = On 0 (Credit (2 ^ 62 - 1)) ∷ On 0 (Credit 1) ∷ On 0 (Charge (2 ^ 64 - 2)) ∷ []
+
+pub over-lasts : Lasts 0 quick overCalls
+over-lasts = lasting-is 0 overCalls quick refl
+
+pub over : (4 * totalCredit 0 overCalls ≡ 2 ^ 64) × (4 * totalCredit 0 overCalls - totalCharge 0 overCalls ≡ 2) × (pathAt 0 (run quick overCalls) .credit ≡ 1)
+over = (refl, refl, refl)
+
+pub over-concluded : totalCharge 0 overCalls ≤ 4 * totalCredit 0 overCalls
+over-concluded = demand3 4 0 quick (first quick (starts pairA 1200 3 refl)) overCalls over-lasts (omega arith) .0

@@ -13,5 +13,6 @@ pub mod Words
 pub mod Example
 pub mod Trials
 pub mod Bounds
+pub mod Rows
 pub mod Rfc
 pub mod RfcProof
