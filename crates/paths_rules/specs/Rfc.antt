@@ -430,11 +430,14 @@ pub record Differs : Type 0 where
   -- D29: on a Validated path neither a response nor a timeout touches what stands
   pub staysMatched : DiffersAt response AttemptEnds (run (start 1) (On 0 (Send 7 1200 0) ∷ [])) (record { path = 0; «data» = 7; now = 1000 })
   pub staysUnverified : DiffersAt response Succeeds (run (start 1) (On 0 (Send 7 1200 0) ∷ [])) (record { path = 0; «data» = 7; now = 1000 })
+  pub staysLimited : DiffersAt response AddressNotMtu (run (start 1) (On 0 (Send 7 1199 0) ∷ [])) (record { path = 0; «data» = 7; now = 1000 })
   pub staysDue : DiffersAt fired ByTimer (run (start 1) (On 0 (Send 7 1200 0) ∷ [])) (record { path = 0; now = 25000 })
   -- D30: a verified address with credit below 64
   pub delayed : DiffersAt frames Prompt (run (start 1) (On 0 Verify ∷ On 0 (Receive 7) ∷ [])) 0
-  -- D31: verified, with credit 120; D32: credit is the datagram size; D33: a Validated path, with credit above it
-  pub unexpanded : DiffersAt padding Expands (probe (On 1 (Credit 40) ∷ On 1 (Send 7 120 0) ∷ On 1 (Respond 7 10) ∷ [])) 1
+  -- D31: verified, by the mark, and by the response to a challenge of 120 bytes, which the limit permitted
+  pub unexpanded : DiffersAt padding Expands (probe (On 1 Verify ∷ [])) 1
+  pub unexpandedSecond : DiffersAt padding Expands (probe (On 1 (Credit 40) ∷ On 1 (Send 7 120 0) ∷ On 1 (Respond 7 10) ∷ [])) 1
+  -- D32: credit is the datagram size; D33: a Validated path, with credit above it
   pub unexpandedAtSize : DiffersAt padding Expands (probe (On 1 (Credit 400) ∷ [])) 1
   pub unexpandedValidated : DiffersAt padding Expands (run (start 1) (On 0 (Credit 401) ∷ [])) 0
   -- D34: an evicted path's received challenges are gone

@@ -585,9 +585,11 @@ differs = record {
   tooLate = λ r. never (sym (r refl refl (omega arith)));
   staysMatched = λ r. never (r refl);
   staysUnverified = λ r. never (sym (r refl refl));
+  staysLimited = λ r. never (sym (r refl refl refl .0));
   staysDue = λ r. never (sym (r _ refl (omega arith) .0));
   delayed = λ r. let e = r refl refl in let z : _≡_ {A = ℕ} 0 1 = cc in omega arith;
   unexpanded = λ r. let e = r refl refl in let z : _≡_ {A = ℕ} 0 1 = cc in omega arith;
+  unexpandedSecond = λ r. let e = r refl refl in let z : _≡_ {A = ℕ} 0 1 = cc in omega arith;
   unexpandedAtSize = λ r. let e = r refl refl in let z : _≡_ {A = ℕ} 0 1 = cc in omega arith;
   unexpandedValidated = λ r. let e = r refl refl in let z : _≡_ {A = ℕ} 0 1 = cc in omega arith;
   evicted = λ r. let e = r 1 (omega arith) in let z : _≡_ {A = ℕ} 0 1 = cc in omega arith;
