@@ -179,13 +179,6 @@ pub extern "C" fn val_ids_need_send_cid_control_frames(s: Ids) -> Flagged
 }
 
 #[no_mangle]
-pub extern "C" fn val_ids_zero_length_scid(s: Ids) -> Flagged
-    ensures { λ r. ⌜ R.AFlag r ≡ R.result s (R.Reads C.ZeroLengthScid) ⌝ }
-{
-    ids::zero_length_scid(s)
-}
-
-#[no_mangle]
 pub extern "C" fn val_ids_zero_length_dcid(s: Ids) -> Flagged
     ensures { λ r. ⌜ R.AFlag r ≡ R.result s (R.Reads C.ZeroLengthDcid) ⌝ }
 {
@@ -193,17 +186,10 @@ pub extern "C" fn val_ids_zero_length_dcid(s: Ids) -> Flagged
 }
 
 #[no_mangle]
-pub extern "C" fn val_ids_scid_count(s: Ids) -> Counted
-    ensures { λ r. ⌜ R.ACount r ≡ R.result s (R.Reads C.ScidCount) ⌝ }
+pub extern "C" fn val_ids_zero_length_scid(s: Ids) -> Flagged
+    ensures { λ r. ⌜ R.AFlag r ≡ R.result s (R.Reads C.ZeroLengthScid) ⌝ }
 {
-    ids::scid_count(s)
-}
-
-#[no_mangle]
-pub extern "C" fn val_ids_scid_at(s: Ids, place: u64) -> ItemAnswer
-    ensures { λ r. ⌜ R.AnItem r ≡ R.result s (R.Reads (C.ScidAt place)) ⌝ }
-{
-    ids::scid_at(s, place)
+    ids::zero_length_scid(s)
 }
 
 #[no_mangle]
@@ -218,4 +204,18 @@ pub extern "C" fn val_ids_dcid_at(s: Ids, place: u64) -> ItemAnswer
     ensures { λ r. ⌜ R.AnItem r ≡ R.result s (R.Reads (C.DcidAt place)) ⌝ }
 {
     ids::dcid_at(s, place)
+}
+
+#[no_mangle]
+pub extern "C" fn val_ids_scid_count(s: Ids) -> Counted
+    ensures { λ r. ⌜ R.ACount r ≡ R.result s (R.Reads C.ScidCount) ⌝ }
+{
+    ids::scid_count(s)
+}
+
+#[no_mangle]
+pub extern "C" fn val_ids_scid_at(s: Ids, place: u64) -> ItemAnswer
+    ensures { λ r. ⌜ R.AnItem r ≡ R.result s (R.Reads (C.ScidAt place)) ⌝ }
+{
+    ids::scid_at(s, place)
 }

@@ -17,6 +17,104 @@ use values::Numbered;
 use values::Timed;
 
 #[no_mangle]
+pub extern "C" fn val_paths_local_addr(t: Paths, id: u64) -> AddressAnswer
+    ensures { λ r. ⌜ R.AnAddress r ≡ R.result t (R.LocalAddr id) ⌝ }
+{
+    paths::local_addr(t, id)
+}
+
+#[no_mangle]
+pub extern "C" fn val_paths_remote_addr(t: Paths, id: u64) -> AddressAnswer
+    ensures { λ r. ⌜ R.AnAddress r ≡ R.result t (R.RemoteAddr id) ⌝ }
+{
+    paths::remote_addr(t, id)
+}
+
+#[no_mangle]
+pub extern "C" fn val_paths_pop_recv_chal(t: Paths, id: u64) -> PoppedOut
+    ensures { λ r. ⌜ R.Popped r ≡ R.result t (R.PopRecvChal id) ⌝ }
+{
+    paths::pop_recv_chal(t, id)
+}
+
+#[no_mangle]
+pub extern "C" fn val_paths_path_chal_initiated(t: Paths, id: u64) -> Flagged
+    ensures { λ r. ⌜ R.AFlag r ≡ R.result t (R.PathChalInitiated id) ⌝ }
+{
+    paths::path_chal_initiated(t, id)
+}
+
+#[no_mangle]
+pub extern "C" fn val_paths_initiate_path_chal(t: Paths, id: u64) -> DoneOut
+    ensures { λ r. ⌜ R.Done r ≡ R.result t (R.InitiatePathChal id) ⌝ }
+{
+    paths::initiate_path_chal(t, id)
+}
+
+#[no_mangle]
+pub extern "C" fn val_paths_need_send_validation_frames(t: Paths, id: u64) -> Flagged
+    ensures { λ r. ⌜ R.AFlag r ≡ R.result t (R.NeedSendValidationFrames id) ⌝ }
+{
+    paths::need_send_validation_frames(t, id)
+}
+
+#[no_mangle]
+pub extern "C" fn val_paths_need_expand_padding_frames(t: Paths, id: u64) -> Flagged
+    ensures { λ r. ⌜ R.AFlag r ≡ R.result t (R.NeedExpandPaddingFrames id) ⌝ }
+{
+    paths::need_expand_padding_frames(t, id)
+}
+
+#[no_mangle]
+pub extern "C" fn val_paths_validated(t: Paths, id: u64) -> Flagged
+    ensures { λ r. ⌜ R.AFlag r ≡ R.result t (R.Validated id) ⌝ }
+{
+    paths::validated(t, id)
+}
+
+#[no_mangle]
+pub extern "C" fn val_paths_active(t: Paths, id: u64) -> Flagged
+    ensures { λ r. ⌜ R.AFlag r ≡ R.result t (R.Active id) ⌝ }
+{
+    paths::active(t, id)
+}
+
+#[no_mangle]
+pub extern "C" fn val_paths_set_active(t: Paths, id: u64, on: bool) -> DoneOut
+    ensures { λ r. ⌜ R.Done r ≡ R.result t (R.SetActive id on) ⌝ }
+{
+    paths::set_active(t, id, on)
+}
+
+#[no_mangle]
+pub extern "C" fn val_paths_state(t: Paths, id: u64) -> Counted
+    ensures { λ r. ⌜ R.ACount r ≡ R.result t (R.State id) ⌝ }
+{
+    paths::state(t, id)
+}
+
+#[no_mangle]
+pub extern "C" fn val_paths_set_scid_seq(t: Paths, id: u64, has: bool, seq: u64) -> DoneOut
+    ensures { λ r. ⌜ R.Done r ≡ R.result t (R.SetScidSeq id has seq) ⌝ }
+{
+    paths::set_scid_seq(t, id, has, seq)
+}
+
+#[no_mangle]
+pub extern "C" fn val_paths_set_dcid_seq(t: Paths, id: u64, has: bool, seq: u64) -> DoneOut
+    ensures { λ r. ⌜ R.Done r ≡ R.result t (R.SetDcidSeq id has seq) ⌝ }
+{
+    paths::set_dcid_seq(t, id, has, seq)
+}
+
+#[no_mangle]
+pub extern "C" fn val_paths_mark_verified(t: Paths, id: u64) -> DoneOut
+    ensures { λ r. ⌜ R.Done r ≡ R.result t (R.MarkVerified id) ⌝ }
+{
+    paths::mark_verified(t, id)
+}
+
+#[no_mangle]
 pub extern "C" fn val_paths_fresh(
     pair: FourTuple,
     max_datagram_size: u64,
@@ -27,24 +125,6 @@ pub extern "C" fn val_paths_fresh(
     ensures { λ r. ⌜ r ≡ R.freshPaths pair «max_datagram_size» limit factor server ⌝ }
 {
     paths::fresh(pair, max_datagram_size, limit, factor, server)
-}
-
-#[no_mangle]
-pub extern "C" fn val_paths_insert_path(
-    t: Paths,
-    pair: FourTuple,
-    max_datagram_size: u64,
-) -> InsertedOut
-    ensures { λ r. ⌜ R.Insertion r ≡ R.result t (R.InsertPath pair «max_datagram_size») ⌝ }
-{
-    paths::insert_path(t, pair, max_datagram_size)
-}
-
-#[no_mangle]
-pub extern "C" fn val_paths_len(t: Paths) -> Counted
-    ensures { λ r. ⌜ R.ACount r ≡ R.result t R.Len ⌝ }
-{
-    paths::len(t)
 }
 
 #[no_mangle]
@@ -69,73 +149,21 @@ pub extern "C" fn val_paths_get_active(t: Paths) -> FoundAnswer
 }
 
 #[no_mangle]
-pub extern "C" fn val_paths_local_addr(t: Paths, id: u64) -> AddressAnswer
-    ensures { λ r. ⌜ R.AnAddress r ≡ R.result t (R.LocalAddr id) ⌝ }
+pub extern "C" fn val_paths_insert_path(
+    t: Paths,
+    pair: FourTuple,
+    max_datagram_size: u64,
+) -> InsertedOut
+    ensures { λ r. ⌜ R.Insertion r ≡ R.result t (R.InsertPath pair «max_datagram_size») ⌝ }
 {
-    paths::local_addr(t, id)
+    paths::insert_path(t, pair, max_datagram_size)
 }
 
 #[no_mangle]
-pub extern "C" fn val_paths_remote_addr(t: Paths, id: u64) -> AddressAnswer
-    ensures { λ r. ⌜ R.AnAddress r ≡ R.result t (R.RemoteAddr id) ⌝ }
+pub extern "C" fn val_paths_len(t: Paths) -> Counted
+    ensures { λ r. ⌜ R.ACount r ≡ R.result t R.Len ⌝ }
 {
-    paths::remote_addr(t, id)
-}
-
-#[no_mangle]
-pub extern "C" fn val_paths_state(t: Paths, id: u64) -> Counted
-    ensures { λ r. ⌜ R.ACount r ≡ R.result t (R.State id) ⌝ }
-{
-    paths::state(t, id)
-}
-
-#[no_mangle]
-pub extern "C" fn val_paths_validated(t: Paths, id: u64) -> Flagged
-    ensures { λ r. ⌜ R.AFlag r ≡ R.result t (R.Validated id) ⌝ }
-{
-    paths::validated(t, id)
-}
-
-#[no_mangle]
-pub extern "C" fn val_paths_active(t: Paths, id: u64) -> Flagged
-    ensures { λ r. ⌜ R.AFlag r ≡ R.result t (R.Active id) ⌝ }
-{
-    paths::active(t, id)
-}
-
-#[no_mangle]
-pub extern "C" fn val_paths_path_chal_initiated(t: Paths, id: u64) -> Flagged
-    ensures { λ r. ⌜ R.AFlag r ≡ R.result t (R.PathChalInitiated id) ⌝ }
-{
-    paths::path_chal_initiated(t, id)
-}
-
-#[no_mangle]
-pub extern "C" fn val_paths_need_send_validation_frames(t: Paths, id: u64) -> Flagged
-    ensures { λ r. ⌜ R.AFlag r ≡ R.result t (R.NeedSendValidationFrames id) ⌝ }
-{
-    paths::need_send_validation_frames(t, id)
-}
-
-#[no_mangle]
-pub extern "C" fn val_paths_need_expand_padding_frames(t: Paths, id: u64) -> Flagged
-    ensures { λ r. ⌜ R.AFlag r ≡ R.result t (R.NeedExpandPaddingFrames id) ⌝ }
-{
-    paths::need_expand_padding_frames(t, id)
-}
-
-#[no_mangle]
-pub extern "C" fn val_paths_initiate_path_chal(t: Paths, id: u64) -> DoneOut
-    ensures { λ r. ⌜ R.Done r ≡ R.result t (R.InitiatePathChal id) ⌝ }
-{
-    paths::initiate_path_chal(t, id)
-}
-
-#[no_mangle]
-pub extern "C" fn val_paths_pop_recv_chal(t: Paths, id: u64) -> PoppedOut
-    ensures { λ r. ⌜ R.Popped r ≡ R.result t (R.PopRecvChal id) ⌝ }
-{
-    paths::pop_recv_chal(t, id)
+    paths::len(t)
 }
 
 #[no_mangle]
@@ -143,6 +171,18 @@ pub extern "C" fn val_paths_on_path_chal_received(t: Paths, id: u64, data: u64) 
     ensures { λ r. ⌜ R.Done r ≡ R.result t (R.OnPathChalReceived id «data») ⌝ }
 {
     paths::on_path_chal_received(t, id, data)
+}
+
+#[no_mangle]
+pub extern "C" fn val_paths_on_path_resp_received(
+    t: Paths,
+    id: u64,
+    data: u64,
+    now: Moment,
+) -> RespondedOut
+    ensures { λ r. ⌜ R.Response r ≡ R.result t (R.OnPathRespReceived id «data» now) ⌝ }
+{
+    paths::on_path_resp_received(t, id, data, now)
 }
 
 #[no_mangle]
@@ -156,18 +196,6 @@ pub extern "C" fn val_paths_on_path_chal_sent(
     ensures { λ r. ⌜ R.Done r ≡ R.result t (R.OnPathChalSent id «data» size sent) ⌝ }
 {
     paths::on_path_chal_sent(t, id, data, size, sent)
-}
-
-#[no_mangle]
-pub extern "C" fn val_paths_on_path_resp_received(
-    t: Paths,
-    id: u64,
-    data: u64,
-    now: Moment,
-) -> RespondedOut
-    ensures { λ r. ⌜ R.Response r ≡ R.result t (R.OnPathRespReceived id «data» now) ⌝ }
-{
-    paths::on_path_resp_received(t, id, data, now)
 }
 
 #[no_mangle]
@@ -217,32 +245,4 @@ pub extern "C" fn val_paths_enable_multipath(t: Paths) -> DoneOut
     ensures { λ r. ⌜ R.Done r ≡ R.result t R.EnableMultipath ⌝ }
 {
     paths::enable_multipath(t)
-}
-
-#[no_mangle]
-pub extern "C" fn val_paths_set_scid_seq(t: Paths, id: u64, has: bool, seq: u64) -> DoneOut
-    ensures { λ r. ⌜ R.Done r ≡ R.result t (R.SetScidSeq id has seq) ⌝ }
-{
-    paths::set_scid_seq(t, id, has, seq)
-}
-
-#[no_mangle]
-pub extern "C" fn val_paths_set_dcid_seq(t: Paths, id: u64, has: bool, seq: u64) -> DoneOut
-    ensures { λ r. ⌜ R.Done r ≡ R.result t (R.SetDcidSeq id has seq) ⌝ }
-{
-    paths::set_dcid_seq(t, id, has, seq)
-}
-
-#[no_mangle]
-pub extern "C" fn val_paths_set_active(t: Paths, id: u64, on: bool) -> DoneOut
-    ensures { λ r. ⌜ R.Done r ≡ R.result t (R.SetActive id on) ⌝ }
-{
-    paths::set_active(t, id, on)
-}
-
-#[no_mangle]
-pub extern "C" fn val_paths_mark_verified(t: Paths, id: u64) -> DoneOut
-    ensures { λ r. ⌜ R.Done r ≡ R.result t (R.MarkVerified id) ⌝ }
-{
-    paths::mark_verified(t, id)
 }

@@ -1,4 +1,4 @@
--- A state is well formed exactly if its view is: so a step's contract is one about `apply`, and about runs of calls.
+-- The view of a well-formed state is well formed, and so is the state of a well-formed view: so a step's contract is one about `apply`, and about runs of calls.
 use Prim.Native.Nat.{ℕ, zero, suc, _+_, _-_, _*_, _%_, _≤_, _<_}
 use mathlib.Core.Path.{_≡_, refl, ap, ap₂, _∙_}
 use mathlib.Core.List.{List, [], _∷_, _++_, map}

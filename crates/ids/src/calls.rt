@@ -327,6 +327,20 @@ pub fn need_send_cid_control_frames(s: Ids) -> Flagged
     }
 }
 
+// Whether the first destination ID was empty.
+pub fn zero_length_dcid(s: Ids) -> Flagged
+    ensures { λ r. ⌜ r ≡ flaggedCall s C.ZeroLengthDcid ⌝ }
+{
+    if ids_state::formed(s) {
+        Flagged {
+            refusal: ACCEPTED,
+            flag: s.zero_destination,
+        }
+    } else {
+        reads::no_flag(MALFORMED)
+    }
+}
+
 // Whether our first source ID was empty.
 pub fn zero_length_scid(s: Ids) -> Flagged
     ensures { λ r. ⌜ r ≡ flaggedCall s C.ZeroLengthScid ⌝ }
@@ -341,17 +355,28 @@ pub fn zero_length_scid(s: Ids) -> Flagged
     }
 }
 
-// Whether the first destination ID was empty.
-pub fn zero_length_dcid(s: Ids) -> Flagged
-    ensures { λ r. ⌜ r ≡ flaggedCall s C.ZeroLengthDcid ⌝ }
+pub fn dcid_count(s: Ids) -> Counted
+    ensures { λ r. ⌜ r ≡ countedCall s C.DcidCount ⌝ }
 {
     if ids_state::formed(s) {
-        Flagged {
+        let t = s.destination;
+        Counted {
             refusal: ACCEPTED,
-            flag: s.zero_destination,
+            number: t.count as u64,
         }
     } else {
-        reads::no_flag(MALFORMED)
+        reads::no_count(MALFORMED)
+    }
+}
+
+pub fn dcid_at(s: Ids, place: u64) -> ItemAnswer
+    ensures { λ r. ⌜ r ≡ itemCall s (C.DcidAt place) ⌝ }
+{
+    if ids_state::formed(s) {
+        let t = s.destination;
+        reads::item_at(t, place)
+    } else {
+        reads::no_item(MALFORMED)
     }
 }
 
@@ -375,31 +400,6 @@ pub fn scid_at(s: Ids, place: u64) -> ItemAnswer
 {
     if ids_state::formed(s) {
         let t = s.source;
-        reads::item_at(t, place)
-    } else {
-        reads::no_item(MALFORMED)
-    }
-}
-
-pub fn dcid_count(s: Ids) -> Counted
-    ensures { λ r. ⌜ r ≡ countedCall s C.DcidCount ⌝ }
-{
-    if ids_state::formed(s) {
-        let t = s.destination;
-        Counted {
-            refusal: ACCEPTED,
-            number: t.count as u64,
-        }
-    } else {
-        reads::no_count(MALFORMED)
-    }
-}
-
-pub fn dcid_at(s: Ids, place: u64) -> ItemAnswer
-    ensures { λ r. ⌜ r ≡ itemCall s (C.DcidAt place) ⌝ }
-{
-    if ids_state::formed(s) {
-        let t = s.destination;
         reads::item_at(t, place)
     } else {
         reads::no_item(MALFORMED)

@@ -1,8 +1,8 @@
 -- What is promised of the code: of every published call, on any state and over any run of calls. This file is the statement, to be read alone; that all
 -- of it holds is `held` in RunsProof.antt.
 --
--- A CodeCall is a published call with the arguments that the code takes, of their form or not. `result s c` is what the contract of c in src/calls.rt says
--- that it returns on the state s, word for word; `made s c` is the state that is in it, or s where the call only reads, and `refusal s c` its number.
+-- A CodeCall is a published call with the arguments that the code takes, of their form or not. `result s c` is what the call c returns on the state s:
+-- the contracts of the crates by_value and vignorasc say so of the code. `made s c` is the state that is in it, or s where the call only reads, and `refusal s c` its number.
 -- `calls s cs` is the state after the calls cs, one after the other, refused ones too. `view`, and `doneCall` to `foundCall`, are of
 -- Reading.antt; `wellFormed` is of paths_state; `apply`, `run` and what is said of them are of paths_rules.
 use Prim.Native.Nat.{ℕ, _+_, _-_, _*_, _^_, _≤_, _<_}
@@ -41,7 +41,7 @@ use Rattle.paths.specs.declared.answers.RespondedOut.{RespondedOut}
 use Rattle.paths_rules.specs.Calls as C
 use Rattle.paths_rules.specs.Path as R
 
--- ---- the published calls, in the order of src/calls.rt: fifteen that change the state, fourteen that read it, and fresh
+-- ---- the published calls: fifteen that change the state, fourteen that read it, and fresh
 
 pub data CodeCall : Type 0 where
   InsertPath : (pair : FourTuple) (size : ℕ) → CodeCall

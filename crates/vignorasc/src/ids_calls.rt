@@ -222,6 +222,14 @@ pub extern "C" fn vig_ids_need_send_cid_control_frames(t: &Ids) -> Flagged
     ids::need_send_cid_control_frames(*t)
 }
 
+// Whether the first destination ID was empty.
+#[no_mangle]
+pub extern "C" fn vig_ids_zero_length_dcid(t: &Ids) -> Flagged
+    ensures { λ r. ⌜ R.AFlag r ≡ R.result (now (t .entry)) (R.Reads C.ZeroLengthDcid) ⌝ }
+{
+    ids::zero_length_dcid(*t)
+}
+
 // Whether our first source ID was empty.
 #[no_mangle]
 pub extern "C" fn vig_ids_zero_length_scid(t: &Ids) -> Flagged
@@ -230,12 +238,18 @@ pub extern "C" fn vig_ids_zero_length_scid(t: &Ids) -> Flagged
     ids::zero_length_scid(*t)
 }
 
-// Whether the first destination ID was empty.
 #[no_mangle]
-pub extern "C" fn vig_ids_zero_length_dcid(t: &Ids) -> Flagged
-    ensures { λ r. ⌜ R.AFlag r ≡ R.result (now (t .entry)) (R.Reads C.ZeroLengthDcid) ⌝ }
+pub extern "C" fn vig_ids_dcid_count(t: &Ids) -> Counted
+    ensures { λ r. ⌜ R.ACount r ≡ R.result (now (t .entry)) (R.Reads C.DcidCount) ⌝ }
 {
-    ids::zero_length_dcid(*t)
+    ids::dcid_count(*t)
+}
+
+#[no_mangle]
+pub extern "C" fn vig_ids_dcid_at(t: &Ids, place: u64) -> ItemAnswer
+    ensures { λ r. ⌜ R.AnItem r ≡ R.result (now (t .entry)) (R.Reads (C.DcidAt place)) ⌝ }
+{
+    ids::dcid_at(*t, place)
 }
 
 // In place of the Rust's iterators: the count of each table, and the item at a place.
@@ -251,18 +265,4 @@ pub extern "C" fn vig_ids_scid_at(t: &Ids, place: u64) -> ItemAnswer
     ensures { λ r. ⌜ R.AnItem r ≡ R.result (now (t .entry)) (R.Reads (C.ScidAt place)) ⌝ }
 {
     ids::scid_at(*t, place)
-}
-
-#[no_mangle]
-pub extern "C" fn vig_ids_dcid_count(t: &Ids) -> Counted
-    ensures { λ r. ⌜ R.ACount r ≡ R.result (now (t .entry)) (R.Reads C.DcidCount) ⌝ }
-{
-    ids::dcid_count(*t)
-}
-
-#[no_mangle]
-pub extern "C" fn vig_ids_dcid_at(t: &Ids, place: u64) -> ItemAnswer
-    ensures { λ r. ⌜ R.AnItem r ≡ R.result (now (t .entry)) (R.Reads (C.DcidAt place)) ⌝ }
-{
-    ids::dcid_at(*t, place)
 }

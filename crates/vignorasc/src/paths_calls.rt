@@ -15,6 +15,138 @@ use values::Moment;
 use values::Numbered;
 use values::Timed;
 
+#[no_mangle]
+pub extern "C" fn vig_paths_local_addr(t: &Paths, id: u64) -> AddressAnswer
+    ensures { λ r. ⌜ R.AnAddress r ≡ R.result (now (t .entry)) (R.LocalAddr id) ⌝ }
+{
+    paths::local_addr(*t, id)
+}
+
+#[no_mangle]
+pub extern "C" fn vig_paths_remote_addr(t: &Paths, id: u64) -> AddressAnswer
+    ensures { λ r. ⌜ R.AnAddress r ≡ R.result (now (t .entry)) (R.RemoteAddr id) ⌝ }
+{
+    paths::remote_addr(*t, id)
+}
+
+// The oldest challenge received is taken out: the answer is its data.
+#[no_mangle]
+pub extern "C" fn vig_paths_pop_recv_chal(t: &mut Paths, id: u64) -> Numbered
+    ensures { λ r. ⌜ R.Popped (record { paths = now (t .exit); answer = r }) ≡ R.result (now (t .entry)) (R.PopRecvChal id) ⌝ }
+{
+    let a = paths::pop_recv_chal_at(*t, id);
+    let i = a.place;
+    let y = a.path;
+    t.items[i] = y;
+    a.answer
+}
+
+// Whether a challenge is asked for.
+#[no_mangle]
+pub extern "C" fn vig_paths_path_chal_initiated(t: &Paths, id: u64) -> Flagged
+    ensures { λ r. ⌜ R.AFlag r ≡ R.result (now (t .entry)) (R.PathChalInitiated id) ⌝ }
+{
+    paths::path_chal_initiated(*t, id)
+}
+
+// A challenge is asked for.
+#[no_mangle]
+pub extern "C" fn vig_paths_initiate_path_chal(t: &mut Paths, id: u64) -> Done
+    ensures { λ r. ⌜ R.Done (record { paths = now (t .exit); answer = r }) ≡ R.result (now (t .entry)) (R.InitiatePathChal id) ⌝ }
+{
+    let a = paths::initiate_path_chal_at(*t, id);
+    let i = a.place;
+    let y = a.path;
+    t.items[i] = y;
+    a.answer
+}
+
+// Whether a challenge or a response is to be sent, and a server has the credit for it.
+#[no_mangle]
+pub extern "C" fn vig_paths_need_send_validation_frames(t: &Paths, id: u64) -> Flagged
+    ensures { λ r. ⌜ R.AFlag r ≡ R.result (now (t .entry)) (R.NeedSendValidationFrames id) ⌝ }
+{
+    paths::need_send_validation_frames(*t, id)
+}
+
+// Whether packets on the path are to be expanded. Of a refusal's zero path nothing is said.
+#[no_mangle]
+pub extern "C" fn vig_paths_need_expand_padding_frames(t: &Paths, id: u64) -> Flagged
+    ensures { λ r. ⌜ R.AFlag r ≡ R.result (now (t .entry)) (R.NeedExpandPaddingFrames id) ⌝ }
+{
+    paths::need_expand_padding_frames(*t, id)
+}
+
+#[no_mangle]
+pub extern "C" fn vig_paths_validated(t: &Paths, id: u64) -> Flagged
+    ensures { λ r. ⌜ R.AFlag r ≡ R.result (now (t .entry)) (R.Validated id) ⌝ }
+{
+    paths::validated(*t, id)
+}
+
+// Whether the path has the active flag and a destination sequence.
+#[no_mangle]
+pub extern "C" fn vig_paths_active(t: &Paths, id: u64) -> Flagged
+    ensures { λ r. ⌜ R.AFlag r ≡ R.result (now (t .entry)) (R.Active id) ⌝ }
+{
+    paths::active(*t, id)
+}
+
+#[no_mangle]
+pub extern "C" fn vig_paths_set_active(t: &mut Paths, id: u64, on: bool) -> Done
+    ensures { λ r. ⌜ R.Done (record { paths = now (t .exit); answer = r }) ≡ R.result (now (t .entry)) (R.SetActive id on) ⌝ }
+{
+    let a = paths::set_active_at(*t, id, on);
+    let i = a.place;
+    let y = a.path;
+    t.items[i] = y;
+    a.answer
+}
+
+// The rank of the path's state.
+#[no_mangle]
+pub extern "C" fn vig_paths_state(t: &Paths, id: u64) -> Counted
+    ensures { λ r. ⌜ R.ACount r ≡ R.result (now (t .entry)) (R.State id) ⌝ }
+{
+    paths::state(*t, id)
+}
+
+// The source sequence that the path uses, or none: then it is 0.
+#[no_mangle]
+pub extern "C" fn vig_paths_set_scid_seq(t: &mut Paths, id: u64, has: bool, seq: u64) -> Done
+    ensures { λ r. ⌜ R.Done (record { paths = now (t .exit); answer = r }) ≡ R.result (now (t .entry)) (R.SetScidSeq id has seq) ⌝ }
+{
+    let a = paths::set_scid_seq_at(*t, id, has, seq);
+    let i = a.place;
+    let y = a.path;
+    t.items[i] = y;
+    a.answer
+}
+
+// The destination sequence that the path uses, or none: then it is 0.
+#[no_mangle]
+pub extern "C" fn vig_paths_set_dcid_seq(t: &mut Paths, id: u64, has: bool, seq: u64) -> Done
+    ensures { λ r. ⌜ R.Done (record { paths = now (t .exit); answer = r }) ≡ R.result (now (t .entry)) (R.SetDcidSeq id has seq) ⌝ }
+{
+    let a = paths::set_dcid_seq_at(*t, id, has, seq);
+    let i = a.place;
+    let y = a.path;
+    t.items[i] = y;
+    a.answer
+}
+
+// The peer's address is verified.
+#[no_mangle]
+pub extern "C" fn vig_paths_mark_verified(t: &mut Paths, id: u64) -> Done
+    ensures { λ r. ⌜ R.Done (record { paths = now (t .exit); answer = r }) ≡ R.result (now (t .entry)) (R.MarkVerified id) ⌝ }
+{
+    let a = paths::mark_verified_at(*t, id);
+    let i = a.place;
+    let y = a.path;
+    t.items[i] = y;
+    a.answer
+}
+
 // One path, Validated and active, with the id 0. A refused call gives the all-zero state.
 #[no_mangle]
 pub extern "C" fn vig_paths_fresh(
@@ -27,28 +159,6 @@ pub extern "C" fn vig_paths_fresh(
     ensures { λ r. ⌜ r ≡ R.freshPaths pair «max_datagram_size» limit factor server ⌝ }
 {
     paths::fresh(pair, max_datagram_size, limit, factor, server)
-}
-
-// A new path: the answer is its id.
-#[no_mangle]
-pub extern "C" fn vig_paths_insert_path(
-    t: &mut Paths,
-    pair: FourTuple,
-    max_datagram_size: u64,
-) -> Counted
-    ensures { λ r. ⌜ R.Insertion (record { paths = now (t .exit); answer = r }) ≡ R.result (now (t .entry)) (R.InsertPath pair «max_datagram_size») ⌝ }
-{
-    let a = paths::insert_path(*t, pair, max_datagram_size);
-    *t = a.paths;
-    a.answer
-}
-
-// How many paths there are.
-#[no_mangle]
-pub extern "C" fn vig_paths_len(t: &Paths) -> Counted
-    ensures { λ r. ⌜ R.ACount r ≡ R.result (now (t .entry)) R.Len ⌝ }
-{
-    paths::len(*t)
 }
 
 // The path with the id.
@@ -75,89 +185,26 @@ pub extern "C" fn vig_paths_get_active(t: &Paths) -> FoundAnswer
     paths::get_active(*t)
 }
 
+// A new path: the answer is its id.
 #[no_mangle]
-pub extern "C" fn vig_paths_local_addr(t: &Paths, id: u64) -> AddressAnswer
-    ensures { λ r. ⌜ R.AnAddress r ≡ R.result (now (t .entry)) (R.LocalAddr id) ⌝ }
+pub extern "C" fn vig_paths_insert_path(
+    t: &mut Paths,
+    pair: FourTuple,
+    max_datagram_size: u64,
+) -> Counted
+    ensures { λ r. ⌜ R.Insertion (record { paths = now (t .exit); answer = r }) ≡ R.result (now (t .entry)) (R.InsertPath pair «max_datagram_size») ⌝ }
 {
-    paths::local_addr(*t, id)
-}
-
-#[no_mangle]
-pub extern "C" fn vig_paths_remote_addr(t: &Paths, id: u64) -> AddressAnswer
-    ensures { λ r. ⌜ R.AnAddress r ≡ R.result (now (t .entry)) (R.RemoteAddr id) ⌝ }
-{
-    paths::remote_addr(*t, id)
-}
-
-// The rank of the path's state.
-#[no_mangle]
-pub extern "C" fn vig_paths_state(t: &Paths, id: u64) -> Counted
-    ensures { λ r. ⌜ R.ACount r ≡ R.result (now (t .entry)) (R.State id) ⌝ }
-{
-    paths::state(*t, id)
-}
-
-#[no_mangle]
-pub extern "C" fn vig_paths_validated(t: &Paths, id: u64) -> Flagged
-    ensures { λ r. ⌜ R.AFlag r ≡ R.result (now (t .entry)) (R.Validated id) ⌝ }
-{
-    paths::validated(*t, id)
-}
-
-// Whether the path has the active flag and a destination sequence.
-#[no_mangle]
-pub extern "C" fn vig_paths_active(t: &Paths, id: u64) -> Flagged
-    ensures { λ r. ⌜ R.AFlag r ≡ R.result (now (t .entry)) (R.Active id) ⌝ }
-{
-    paths::active(*t, id)
-}
-
-// Whether a challenge is asked for.
-#[no_mangle]
-pub extern "C" fn vig_paths_path_chal_initiated(t: &Paths, id: u64) -> Flagged
-    ensures { λ r. ⌜ R.AFlag r ≡ R.result (now (t .entry)) (R.PathChalInitiated id) ⌝ }
-{
-    paths::path_chal_initiated(*t, id)
-}
-
-// Whether a challenge or a response is to be sent, and a server has the credit for it.
-#[no_mangle]
-pub extern "C" fn vig_paths_need_send_validation_frames(t: &Paths, id: u64) -> Flagged
-    ensures { λ r. ⌜ R.AFlag r ≡ R.result (now (t .entry)) (R.NeedSendValidationFrames id) ⌝ }
-{
-    paths::need_send_validation_frames(*t, id)
-}
-
-// Whether packets on the path are to be expanded. Of a refusal's zero path nothing is said.
-#[no_mangle]
-pub extern "C" fn vig_paths_need_expand_padding_frames(t: &Paths, id: u64) -> Flagged
-    ensures { λ r. ⌜ R.AFlag r ≡ R.result (now (t .entry)) (R.NeedExpandPaddingFrames id) ⌝ }
-{
-    paths::need_expand_padding_frames(*t, id)
-}
-
-// A challenge is asked for.
-#[no_mangle]
-pub extern "C" fn vig_paths_initiate_path_chal(t: &mut Paths, id: u64) -> Done
-    ensures { λ r. ⌜ R.Done (record { paths = now (t .exit); answer = r }) ≡ R.result (now (t .entry)) (R.InitiatePathChal id) ⌝ }
-{
-    let a = paths::initiate_path_chal_at(*t, id);
-    let i = a.place;
-    let y = a.path;
-    t.items[i] = y;
+    let a = paths::insert_path(*t, pair, max_datagram_size);
+    *t = a.paths;
     a.answer
 }
 
-// The oldest challenge received is taken out: the answer is its data.
+// How many paths there are.
 #[no_mangle]
-pub extern "C" fn vig_paths_pop_recv_chal(t: &mut Paths, id: u64) -> Numbered
-    ensures { λ r. ⌜ R.Popped (record { paths = now (t .exit); answer = r }) ≡ R.result (now (t .entry)) (R.PopRecvChal id) ⌝ }
+pub extern "C" fn vig_paths_len(t: &Paths) -> Counted
+    ensures { λ r. ⌜ R.ACount r ≡ R.result (now (t .entry)) R.Len ⌝ }
 {
-    let a = paths::pop_recv_chal_at(*t, id);
-    let i = a.place;
-    let y = a.path;
-    t.items[i] = y;
-    a.answer
+    paths::len(*t)
 }
 
 // A PATH_CHALLENGE frame came.
@@ -166,6 +213,23 @@ pub extern "C" fn vig_paths_on_path_chal_received(t: &mut Paths, id: u64, data: 
     ensures { λ r. ⌜ R.Done (record { paths = now (t .exit); answer = r }) ≡ R.result (now (t .entry)) (R.OnPathChalReceived id «data») ⌝ }
 {
     let a = paths::on_path_chal_received_at(*t, id, data);
+    let i = a.place;
+    let y = a.path;
+    t.items[i] = y;
+    a.answer
+}
+
+// A PATH_RESPONSE frame came: the answer is whether the path is now Validated, and a span for each challenge that it matched.
+#[no_mangle]
+pub extern "C" fn vig_paths_on_path_resp_received(
+    t: &mut Paths,
+    id: u64,
+    data: u64,
+    moment: Moment,
+) -> RespondedAnswer
+    ensures { λ r. ⌜ R.Response (record { paths = now (t .exit); answer = r }) ≡ R.result (now (t .entry)) (R.OnPathRespReceived id «data» moment) ⌝ }
+{
+    let a = paths::on_path_resp_received_at(*t, id, data, moment);
     let i = a.place;
     let y = a.path;
     t.items[i] = y;
@@ -184,23 +248,6 @@ pub extern "C" fn vig_paths_on_path_chal_sent(
     ensures { λ r. ⌜ R.Done (record { paths = now (t .exit); answer = r }) ≡ R.result (now (t .entry)) (R.OnPathChalSent id «data» size sent) ⌝ }
 {
     let a = paths::on_path_chal_sent_at(*t, id, data, size, sent);
-    let i = a.place;
-    let y = a.path;
-    t.items[i] = y;
-    a.answer
-}
-
-// A PATH_RESPONSE frame came: the answer is whether the path is now Validated, and a span for each challenge that it matched.
-#[no_mangle]
-pub extern "C" fn vig_paths_on_path_resp_received(
-    t: &mut Paths,
-    id: u64,
-    data: u64,
-    moment: Moment,
-) -> RespondedAnswer
-    ensures { λ r. ⌜ R.Response (record { paths = now (t .exit); answer = r }) ≡ R.result (now (t .entry)) (R.OnPathRespReceived id «data» moment) ⌝ }
-{
-    let a = paths::on_path_resp_received_at(*t, id, data, moment);
     let i = a.place;
     let y = a.path;
     t.items[i] = y;
@@ -274,52 +321,5 @@ pub extern "C" fn vig_paths_enable_multipath(t: &mut Paths) -> Done
 {
     let a = paths::enable_multipath(*t);
     *t = a.paths;
-    a.answer
-}
-
-// The source sequence that the path uses, or none: then it is 0.
-#[no_mangle]
-pub extern "C" fn vig_paths_set_scid_seq(t: &mut Paths, id: u64, has: bool, seq: u64) -> Done
-    ensures { λ r. ⌜ R.Done (record { paths = now (t .exit); answer = r }) ≡ R.result (now (t .entry)) (R.SetScidSeq id has seq) ⌝ }
-{
-    let a = paths::set_scid_seq_at(*t, id, has, seq);
-    let i = a.place;
-    let y = a.path;
-    t.items[i] = y;
-    a.answer
-}
-
-// The destination sequence that the path uses, or none: then it is 0.
-#[no_mangle]
-pub extern "C" fn vig_paths_set_dcid_seq(t: &mut Paths, id: u64, has: bool, seq: u64) -> Done
-    ensures { λ r. ⌜ R.Done (record { paths = now (t .exit); answer = r }) ≡ R.result (now (t .entry)) (R.SetDcidSeq id has seq) ⌝ }
-{
-    let a = paths::set_dcid_seq_at(*t, id, has, seq);
-    let i = a.place;
-    let y = a.path;
-    t.items[i] = y;
-    a.answer
-}
-
-#[no_mangle]
-pub extern "C" fn vig_paths_set_active(t: &mut Paths, id: u64, on: bool) -> Done
-    ensures { λ r. ⌜ R.Done (record { paths = now (t .exit); answer = r }) ≡ R.result (now (t .entry)) (R.SetActive id on) ⌝ }
-{
-    let a = paths::set_active_at(*t, id, on);
-    let i = a.place;
-    let y = a.path;
-    t.items[i] = y;
-    a.answer
-}
-
-// The peer's address is verified.
-#[no_mangle]
-pub extern "C" fn vig_paths_mark_verified(t: &mut Paths, id: u64) -> Done
-    ensures { λ r. ⌜ R.Done (record { paths = now (t .exit); answer = r }) ≡ R.result (now (t .entry)) (R.MarkVerified id) ⌝ }
-{
-    let a = paths::mark_verified_at(*t, id);
-    let i = a.place;
-    let y = a.path;
-    t.items[i] = y;
     a.answer
 }
