@@ -2,11 +2,16 @@
 
 use std::fmt::Write;
 
-use crate::record::{Area, CALLS};
+use crate::record::{Area, Record, CALLS};
 
 /// Stand for no call: how a state was not well formed.
 pub const IDS_STATE: u8 = 0xfe;
 pub const PATHS_STATE: u8 = 0xff;
+/// The same: the calls that a state has lived through since its fresh.
+pub const IDS_LIFE: u8 = 0xfc;
+pub const PATHS_LIFE: u8 = 0xfd;
+/// A long life, in calls that were not answered 1.
+pub const LONG_LIFE: u64 = 10_000;
 
 const STATE: &str = "malformed-state";
 const ID: &str = "id-too-long id-tail-not-zero";
@@ -33,7 +38,7 @@ fn ways(area: Area, name: &str) -> Vec<&'static str> {
         (Area::Timers, "clear") => &["some-set none-set"],
 
         (Area::Ids, "fresh") => &["limit-0 limit-too-large", ID, TOKEN, "zero-length with-token without-token"],
-        (Area::Ids, "set_initial_dcid") => &[ID, TOKEN, NUMBER, STATE, "zero-length first replaces-one replaces-several"],
+        (Area::Ids, "set_initial_dcid") => &[ID, TOKEN, NUMBER, STATE, "zero-length first replaces-one replaces-several source-mark-on"],
         (Area::Ids, "set_scid_limit") => &[STATE, "clamped-up clamped-down capacity-raised capacity-kept limit-lowered"],
         (Area::Ids, "get_scid" | "get_dcid") => &[STATE, "absent found"],
         (Area::Ids, "find_scid") => &[ID, STATE, "none found-with-path found-without-path first-of-several"],
@@ -87,24 +92,27 @@ fn ways(area: Area, name: &str) -> Vec<&'static str> {
         (Area::Paths, "need_send_validation_frames") => &[UNKNOWN, "server-below-64 server-at-64 asked received nothing"],
         (Area::Paths, "need_expand_padding_frames") => &[UNKNOWN, "validated credit-below-mds credit-at-mds credit-above-mds client"],
         (Area::Paths, "initiate_path_chal") => &[UNKNOWN, "asked asked-already"],
-        (Area::Paths, "pop_recv_chal") => &[UNKNOWN, "empty only first-of-several"],
-        (Area::Paths, "on_path_chal_received") => &[UNKNOWN, "room oldest-dropped"],
+        (Area::Paths, "pop_recv_chal") => &[UNKNOWN, "empty only first-of-several all-64-stand"],
+        (Area::Paths, "on_path_chal_received") => &[UNKNOWN, "room oldest-dropped all-64-stand"],
         (Area::Paths, "on_path_chal_sent") => &[
             "moment-too-far", UNKNOWN,
             "lost-33 deadline-too-far deadline-too-far-full full deadline-at-last lost-32",
             "from-failed from-unknown in-validating in-validating-mtu in-validated",
+            "failed-with-challenges unknown-with-challenges all-128-stand",
         ],
         (Area::Paths, "on_path_resp_received") => &[
             "moment-too-far", UNKNOWN,
             "validated no-match-below no-match-single no-match-multipath one-match-below one-match-single one-match-multipath",
             "several-below several-single several-multipath last-match-smaller now-before-sent size-1199 size-1200 was-failed others-left",
+            "failed-with-challenges unknown-with-challenges some-were-lost sixteen-matches all-128-stand",
         ],
         (Area::Paths, "on_path_chal_timeout") => &[
             "moment-too-far", STATE,
             "nothing-due some-lost some-failed lost-and-failed",
             "deadline-at-now due-behind-front validated-left several-lost-on-a-path lost-32-failed",
+            "failed-with-sequence failed-left unknown-left all-128-stand",
         ],
-        (Area::Paths, "min_path_chal_timer") => &[STATE, "none one-path several-paths front-not-least"],
+        (Area::Paths, "min_path_chal_timer") => &[STATE, "none one-path several-paths front-not-least of-a-failed-or-unknown-path all-128-stand"],
         (Area::Paths, "inc_anti_ampl_limit") => &[STATE, "client unknown-id verified added product-stops sum-stops"],
         (Area::Paths, "dec_anti_ampl_limit") => &[STATE, "client unknown-id verified subtracted to-zero stops-at-zero"],
         (Area::Paths, "cmp_anti_ampl_limit") => &[STATE, "client unknown-id verified wish-lesser equal allowance-lesser"],
@@ -113,10 +121,11 @@ fn ways(area: Area, name: &str) -> Vec<&'static str> {
             "single-none single-with-pair single-without-pair multipath-listed multipath-not-listed multipath-all multipath-all-none",
         ],
         (Area::Paths, "enable_multipath") => &[STATE, "was-off was-on"],
-        (Area::Paths, "set_scid_seq" | "set_dcid_seq") => &[NUMBER, UNKNOWN, "present absent"],
+        (Area::Paths, "set_scid_seq" | "set_dcid_seq") => &[NUMBER, UNKNOWN, "present absent far"],
         (Area::Paths, "set_active") => &[UNKNOWN, "on off"],
         (Area::Paths, "mark_verified") => &[UNKNOWN, "first again"],
         (Area::Paths, "well_formed") => &["all-zero lost-above-33 lost-33-with-challenges"],
+        (Area::Ids | Area::Paths, "life") => &["calls-100 calls-1000 calls-10000"],
         _ => unreachable!("no branches: {} {name}", area.name()),
     };
     lists.iter().flat_map(|list| list.split_whitespace()).collect()
@@ -139,7 +148,12 @@ pub struct Tally {
 impl Tally {
     pub fn new() -> Self {
         let calls = CALLS.iter().filter(|call| !call.write).map(|call| (call.number, call.area, call.name));
-        let states = [(IDS_STATE, Area::Ids, "well_formed"), (PATHS_STATE, Area::Paths, "well_formed")];
+        let states = [
+            (IDS_STATE, Area::Ids, "well_formed"),
+            (IDS_LIFE, Area::Ids, "life"),
+            (PATHS_STATE, Area::Paths, "well_formed"),
+            (PATHS_LIFE, Area::Paths, "life"),
+        ];
         let counts: Vec<Counts> = calls
             .chain(states)
             .map(|(call, area, name)| Counts {
@@ -172,6 +186,13 @@ impl Tally {
         }
     }
 
+    /// Notes where the Rust gives another refusal than the one foretold for the way.
+    pub fn hold(&mut self, record: &Record, way: &str, foretold: u8, given: u8) {
+        if foretold != given {
+            self.disagreements.push(format!("{}: {way}: {foretold} expected, the Rust gives {given}", record.describe()));
+        }
+    }
+
     /// A line for each way through each call of the areas of which a call was made.
     pub fn report(&self) -> String {
         let made = |area| self.counts.iter().any(|entry| entry.area == area && entry.ways.iter().any(|way| way.1 > 0));
@@ -183,5 +204,35 @@ impl Tally {
             }
         }
         text
+    }
+}
+
+#[cfg(test)]
+mod tests {
+    use super::*;
+
+    #[test]
+    fn every_call_has_its_ways_and_no_way_stands_twice() {
+        for entry in &Tally::new().counts {
+            for (place, (way, _)) in entry.ways.iter().enumerate() {
+                assert!(entry.ways[..place].iter().all(|(other, _)| other != way), "{} {way}", entry.name);
+            }
+            assert!(!entry.ways.is_empty(), "{}", entry.name);
+        }
+    }
+
+    #[test]
+    fn another_refusal_than_foretold_is_noted() {
+        let (mut tally, record) = (Tally::new(), Record::new(0x41));
+        tally.hold(&record, "none-unused", 5, 5);
+        assert!(tally.disagreements.is_empty());
+        tally.hold(&record, "none-unused", 5, 2);
+        assert_eq!(tally.disagreements.len(), 1);
+    }
+
+    #[test]
+    #[should_panic(expected = "no way `none`")]
+    fn a_way_that_is_not_listed_is_an_error() {
+        Tally::new().hit(0x41, "none");
     }
 }

@@ -140,6 +140,14 @@ pub mod path {
         pub fn write_largest_size(&mut self, size: usize) {
             self.max_challenge_size = size;
         }
+
+        /// A number that no state has leaves it alone.
+        pub fn write_state(&mut self, state: usize) {
+            use PathState::*;
+            if let Some(state) = [Failed, Unknown, Validating, ValidatingMTU, Validated].get(state) {
+                self.state = *state;
+            }
+        }
     }
 
     impl PathMap {

@@ -148,3 +148,102 @@ pub fn of_paths(map: &PathMap) -> u64 {
     digest.word(map.limit() as u64);
     digest.value()
 }
+
+#[cfg(test)]
+mod tests {
+    use super::*;
+    use crate::record::{find, number, Area, Record};
+    use crate::run::World;
+
+    #[test]
+    fn nothing_but_zeros_is_0() {
+        let world = World::new();
+        assert_eq!([Area::Timers, Area::Ids, Area::Paths].map(|area| world.digest(area)), [0; 3]);
+        assert_eq!(of_words(vec![0; 1000]), 0);
+    }
+
+    #[test]
+    fn the_words_are_mixed_as_the_document_says() {
+        // By hand: 1, 1 + 1024 = 1025, 1025 xor 16 = 1041, 1041 x 9 = 9369, 9369 xor 4 = 9373.
+        assert_eq!(of_words([1]), 9373);
+        assert_ne!(of_words([1, 0]), of_words([0, 1]));
+    }
+
+    /// The digest after each record; none comes twice, so that a glue that forgets a field is noticed.
+    fn all_differ(area: Area, records: &[(&str, &dyn Fn(&mut Record))]) {
+        let (mut world, mut seen) = (World::new(), Vec::new());
+        for (name, write) in records {
+            let call = find(number(area, name)).unwrap();
+            let mut record = Record::new(call.number);
+            write(&mut record);
+            assert_eq!(world.apply(call, &record).refusal, 0, "{name}");
+            let digest = world.digest(area);
+            assert!(!seen.contains(&digest), "{name} changes nothing that the digest has");
+            seen.push(digest);
+        }
+    }
+
+    #[test]
+    fn every_field_of_the_paths_is_taken() {
+        let pair = |record: &mut Record, port| {
+            (record.area[0], record.area[27], record.area[18]) = (4, 4, port);
+        };
+        all_differ(
+            Area::Paths,
+            &[
+                ("fresh", &|r| (pair(r, 1), r.n = [1200, 2, 3, 0], r.c = true).0),
+                ("fresh", &|r| (pair(r, 1), r.n = [1200, 2, 3, 0]).0),
+                ("fresh", &|r| (pair(r, 1), r.n = [1200, 2, 4, 0], r.c = true).0),
+                ("fresh", &|r| (pair(r, 1), r.n = [1200, 3, 4, 0], r.c = true).0),
+                ("fresh", &|r| (pair(r, 1), r.n = [1201, 3, 4, 0], r.c = true).0),
+                ("fresh", &|r| (pair(r, 2), r.n = [1201, 3, 4, 0], r.c = true).0),
+                ("enable_multipath", &|_| {}),
+                ("insert_path", &|r| pair(r, 2)),
+                ("set_scid_seq", &|r| (r.b, r.n) = (true, [1, 0, 0, 0])),
+                ("set_scid_seq", &|r| (r.b, r.n) = (true, [1, 9, 0, 0])),
+                ("set_dcid_seq", &|r| (r.b, r.n) = (true, [1, 0, 0, 0])),
+                ("set_dcid_seq", &|r| (r.b, r.n) = (true, [1, 9, 0, 0])),
+                ("set_active", &|r| (r.c, r.n) = (true, [1, 0, 0, 0])),
+                ("mark_ping", &|_| {}),
+                ("initiate_path_chal", &|r| r.n = [1, 0, 0, 0]),
+                ("on_path_chal_received", &|r| r.n = [1, 0, 0, 0]),
+                ("on_path_chal_received", &|r| r.n = [1, 7, 0, 0]),
+                ("on_path_chal_sent", &|r| r.n = [1, 0, 0, 0]),
+                ("on_path_chal_sent", &|r| r.n = [1, 7, 1200, 5]),
+                ("write_credit", &|r| r.n = [1, 5, 0, 0]),
+                ("write_lost", &|r| r.n = [1, 5, 0, 0]),
+                ("write_largest_size", &|r| r.n = [1, 5, 0, 0]),
+                ("write_state", &|r| r.n = [1, 0, 0, 0]),
+                ("write_state", &|r| r.n = [1, 3, 0, 0]),
+                ("mark_verified", &|r| r.n = [1, 0, 0, 0]),
+            ],
+        );
+    }
+
+    #[test]
+    fn every_field_of_the_ids_is_taken() {
+        let id = |record: &mut Record, k| (record.area[0], record.area[1]) = (1, k);
+        all_differ(
+            Area::Ids,
+            &[
+                ("fresh", &|r| (id(r, 1), r.n = [1, 0, 0, 0]).0),
+                ("fresh", &|r| (id(r, 1), r.n = [2, 0, 0, 0]).0),
+                ("fresh", &|r| (id(r, 1), r.n = [2, 1, 0, 0]).0),
+                ("fresh", &|r| (id(r, 2), r.n = [2, 1, 0, 0]).0),
+                ("fresh", &|r| (id(r, 2), r.n = [2, 1, 0, 0], r.a = true).0),
+                ("fresh", &|r| (r.n, r.a) = ([2, 1, 0, 0], true)),
+                ("set_initial_dcid", &|r| id(r, 3)),
+                ("set_initial_dcid", &|_| {}),
+                ("set_scid_limit", &|r| r.n[0] = 3),
+                ("set_scid_limit", &|r| r.n[0] = 2),
+                ("mark_scid_used", &|r| r.n[1] = 7),
+                ("mark_dcid_used", &|r| r.n[1] = 7),
+                ("mark_scid_to_advertise", &|r| r.c = true),
+                ("mark_dcid_to_retire", &|r| r.c = true),
+                ("write_next", &|r| r.n[0] = 9),
+                ("write_own_rpt", &|r| r.n[0] = 9),
+                ("write_peer_rpt", &|r| r.n[0] = 9),
+            ],
+        );
+    }
+}

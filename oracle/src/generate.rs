@@ -1,11 +1,13 @@
 //! The seeded generator. It keeps the Rust's states beside the trace that it writes, so that arguments can be chosen that
-//! exist, repeat, or lie on either side of a limit. Each area goes through rounds: a fresh, then calls in one mood.
+//! exist, repeat, or lie on either side of a limit. Each area goes through rounds: a fresh, then calls in one mood. Now and
+//! then a round is a long life: its mood changes on the way, and no fresh comes in between.
 
 mod ids;
 mod paths;
 
 use std::collections::VecDeque;
 
+use crate::branches::LONG_LIFE;
 use crate::connection::timers;
 use crate::moment;
 use crate::record::{self, Area, Arg, Call, Record, AREA, CALLS, MAX_MOMENT, MAX_SEQUENCE};
@@ -18,6 +20,10 @@ const EDGES: [u64; 7] = [0, 1, MAX_SEQUENCE - 1, MAX_SEQUENCE, MAX_SEQUENCE + 1,
 pub struct Rng(u64);
 
 impl Rng {
+    pub fn new(seed: u64) -> Self {
+        Rng(seed)
+    }
+
     pub fn next(&mut self) -> u64 {
         self.0 = self.0.wrapping_add(0x9e37_79b9_7f4a_7c15);
         let mut z = self.0;
@@ -66,12 +72,44 @@ impl Rng {
     }
 }
 
+/// How many calls a long life has at least, with room for those that are answered 1, and how long one mood lasts in it.
+const LIFE: u64 = LONG_LIFE * 5 / 4;
+const MOOD: u64 = 300;
+
 /// What an area is at: calls left in its round, records planned, and its mood.
-#[derive(Default)]
 struct Round {
     left: u64,
     mood: usize,
     plan: VecDeque<Record>,
+    /// The round is a long life.
+    long: bool,
+    /// The calls of short rounds since the last long life, and how many there are before the next. The first comes early, so
+    /// that a short trace has it; in a trace of a million calls they are an eighth or so.
+    short: u64,
+    gap: u64,
+}
+
+impl Round {
+    fn new() -> Self {
+        Round { left: 0, mood: 0, plan: VecDeque::new(), long: false, short: 0, gap: 8000 }
+    }
+
+    /// A new round, of so many calls if it is a short one.
+    fn begin(&mut self, calls: u64) {
+        self.plan.clear();
+        self.long = self.short >= self.gap;
+        self.left = calls;
+        if self.long {
+            (self.left, self.short, self.gap) = (LIFE, 0, (2 * self.gap).min(64_000));
+        }
+    }
+
+    /// One call less. Whether the mood of a long life changes.
+    fn go_on(&mut self) -> bool {
+        self.left -= 1;
+        self.short += !self.long as u64;
+        self.long && self.left % MOOD == 0
+    }
 }
 
 pub struct Generator {
@@ -89,8 +127,8 @@ pub struct Generator {
 
 impl Generator {
     pub fn new(areas: Vec<Area>, seed: u64) -> Self {
-        let (ids, paths) = (Round::default(), Round::default());
-        Generator { rng: Rng(seed), areas, world: World::new(), ids, paths, now: 0, pairs: 1, data: 1 }
+        let (ids, paths) = (Round::new(), Round::new());
+        Generator { rng: Rng::new(seed), areas, world: World::new(), ids, paths, now: 0, pairs: 1, data: 1 }
     }
 
     pub fn next(&mut self) -> Record {
@@ -107,6 +145,7 @@ impl Generator {
         let call = record::find(record.call).expect("a call");
         // Few calls of these are made, and each has many arguments.
         let often = match call.name {
+            "fresh" if self.spared(area) => 0,
             "fresh" => 20,
             "mark_ping" | "get_path_id" => 10,
             _ => 3,
@@ -116,6 +155,15 @@ impl Generator {
         }
         self.world.apply(call, &record);
         record
+    }
+
+    /// Whether the round's fresh must not be refused, since more hangs on it than a few calls.
+    fn spared(&self, area: Area) -> bool {
+        match area {
+            Area::Ids => self.ids.long,
+            Area::Paths => self.paths.long || self.paths.mood == paths::ALL_FULL,
+            _ => false,
+        }
     }
 
     fn unknown(&mut self) -> Record {

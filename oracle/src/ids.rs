@@ -43,13 +43,7 @@ pub fn answer(ids: &mut ConnectionIdMgr, call: &Call, record: &Record, tally: &m
         Ok(fields) => Outcome::accepted(call, fields),
         Err(error) => Outcome::refused(call, refusal_of(&error)),
     };
-    if outcome.refusal != refusal {
-        tally.disagreements.push(format!(
-            "{}: {way}: {refusal} expected, the Rust gives {}",
-            record.describe(),
-            outcome.refusal
-        ));
-    }
+    tally.hold(record, way, refusal, outcome.refusal);
     outcome
 }
 
@@ -187,8 +181,13 @@ fn way(ids: &IdsPeek, call: &Call, record: &Record, tally: &mut Tally) -> (&'sta
     match call.name {
         "fresh" if record.area[0] == 0 => ("zero-length", 0),
         "fresh" => (if record.a { "with-token" } else { "without-token" }, 0),
-        "set_initial_dcid" if record.area[0] == 0 => ("zero-length", 0),
-        "set_initial_dcid" => (["first", "replaces-one", "replaces-several"][ids.dcids.len().min(2)], 0),
+        "set_initial_dcid" => {
+            tally.hit_if(ids.zero_length_scid, call.number, "source-mark-on");
+            match record.area[0] {
+                0 => ("zero-length", 0),
+                _ => (["first", "replaces-one", "replaces-several"][ids.dcids.len().min(2)], 0),
+            }
+        }
         "set_scid_limit" if n[0] < 2 => ("clamped-up", 0),
         "set_scid_limit" if n[0] > 16 => ("clamped-down", 0),
         "set_scid_limit" if n[0] < ids.scid_limit as u64 => ("limit-lowered", 0),

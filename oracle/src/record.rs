@@ -153,6 +153,7 @@ pub const CALLS: &[Call] = &[
     write(0xe8, Paths, "write_credit", &[ID, Number("credit", 1)]),
     write(0xe9, Paths, "write_lost", &[ID, Number("lost", 1)]),
     write(0xea, Paths, "write_largest_size", &[ID, Number("size", 1)]),
+    write(0xeb, Paths, "write_state", &[ID, Number("state", 1)]),
 ];
 
 /// The call of that number, if it is in the table.
@@ -389,5 +390,57 @@ impl Outcome {
         }
         let _ = write!(line, " {digest:016x}");
         line
+    }
+}
+
+#[cfg(test)]
+mod tests {
+    use super::*;
+    use crate::generate::Rng;
+
+    /// A record of 96 random bytes, but for the flags and the bytes that are zero.
+    fn random(rng: &mut Rng) -> [u8; RECORD] {
+        let mut bytes = [0; RECORD];
+        bytes.iter_mut().for_each(|byte| *byte = rng.next() as u8);
+        bytes[1..5].iter_mut().for_each(|flag| *flag &= 1);
+        bytes[5..8].fill(0);
+        bytes[94..].fill(0);
+        bytes
+    }
+
+    #[test]
+    fn bytes_are_read_and_written_alike() {
+        let mut rng = Rng::new(5);
+        for _ in 0..10_000 {
+            let bytes = random(&mut rng);
+            assert_eq!(Record::from_bytes(&bytes).map(|record| record.to_bytes()), Some(bytes));
+        }
+    }
+
+    #[test]
+    fn flags_above_1_and_bytes_that_are_not_zero_are_malformed() {
+        let bytes = random(&mut Rng::new(6));
+        for place in (1..8).chain(94..RECORD) {
+            let mut damaged = bytes;
+            damaged[place] = 2;
+            assert_eq!(Record::from_bytes(&damaged), None, "{place}");
+        }
+    }
+
+    #[test]
+    fn numbers_and_names_are_those_of_one_call() {
+        for (place, call) in CALLS.iter().enumerate() {
+            assert_eq!(find(call.number).map(|found| found.name), Some(call.name));
+            assert_eq!(number(call.area, call.name), call.number);
+            assert!(CALLS[..place].iter().all(|other| other.number < call.number), "{}", call.name);
+        }
+    }
+
+    #[test]
+    fn a_refused_line_has_its_fields_all_zero() {
+        let call = find(0x23).unwrap();
+        let line = Outcome::refused(call, 2).line(call.number, 1);
+        assert_eq!(line.split(' ').map(str::len).collect::<Vec<_>>(), [2, 2, 42, 16, 1, 32, 1, 16, 16]);
+        assert!(line.starts_with("23 02 0") && line[6..line.len() - 1].chars().all(|digit| digit == '0' || digit == ' '));
     }
 }

@@ -4,7 +4,7 @@ use std::error::Error;
 use std::fs::File;
 use std::io::{self, BufRead, BufReader, BufWriter, Read, Write};
 
-use crate::branches::Tally;
+use crate::branches::{Tally, IDS_LIFE, LONG_LIFE, PATHS_LIFE};
 use crate::connection::cid::ConnectionIdMgr;
 use crate::connection::path::PathMap;
 use crate::connection::{ids, paths, timers};
@@ -20,19 +20,42 @@ pub struct World {
     pub ids: ConnectionIdMgr,
     pub paths: PathMap,
     pub tally: Tally,
+    /// How many calls the IDs and the paths have answered, otherwise than by 1, since their fresh.
+    ages: [u64; 2],
 }
 
 impl World {
     pub fn new() -> Self {
-        World { timers: Default::default(), ids: Default::default(), paths: PathMap::zero(), tally: Tally::new() }
+        let (timers, ids) = Default::default();
+        World { timers, ids, paths: PathMap::zero(), tally: Tally::new(), ages: [0; 2] }
     }
 
     pub fn apply(&mut self, call: &Call, record: &Record) -> Outcome {
-        match call.area {
+        let outcome = match call.area {
             Area::Values => values(call, record, &mut self.tally),
             Area::Timers => timers::answer(&mut self.timers, call, record, &mut self.tally),
             Area::Ids => ids::answer(&mut self.ids, call, record, &mut self.tally),
             Area::Paths => paths::answer(&mut self.paths, call, record, &mut self.tally),
+        };
+        self.grow(call, outcome.refusal);
+        outcome
+    }
+
+    /// Counts the lives that reach an age.
+    fn grow(&mut self, call: &Call, refusal: u8) {
+        let (state, life) = match call.area {
+            Area::Ids => (0, IDS_LIFE),
+            Area::Paths => (1, PATHS_LIFE),
+            _ => return,
+        };
+        let age = &mut self.ages[state];
+        match (call.name, refusal) {
+            ("fresh", _) => *age = 0,
+            (_, 1) => return,
+            _ => *age += !call.write as u64,
+        }
+        for (calls, way) in [(100, "calls-100"), (1000, "calls-1000"), (LONG_LIFE, "calls-10000")] {
+            self.tally.hit_if(!call.write && *age == calls, life, way);
         }
     }
 
@@ -90,9 +113,14 @@ pub fn generate(areas: &str, calls: &str, seed: &str) -> Done {
     let areas: Vec<Area> = areas.split(',').map(named).collect::<Result<_, _>>()?;
     let (calls, seed): (u64, u64) = (calls.parse()?, seed.parse()?);
     let mut generator = Generator::new(areas, seed);
+    write_all((0..calls).map(|_| generator.next()))
+}
+
+/// Writes a trace.
+pub fn write_all(records: impl IntoIterator<Item = Record>) -> Done {
     let mut out = BufWriter::new(io::stdout().lock());
-    for _ in 0..calls {
-        out.write_all(&generator.next().to_bytes())?;
+    for record in records {
+        out.write_all(&record.to_bytes())?;
     }
     out.flush()?;
     Ok(true)
@@ -187,4 +215,50 @@ pub fn compare(trace: &str, a: &str, b: &str) -> Done {
         println!("B: {}", text(line_b));
     }
     Ok(differing == 0)
+}
+
+#[cfg(test)]
+mod tests {
+    use super::*;
+
+    /// The comparison of the answers to two records with what `change` makes of them.
+    fn compared(name: &str, change: impl Fn(&str) -> String) -> bool {
+        let folder = std::env::temp_dir().join(format!("oracle-{}-{name}", std::process::id()));
+        std::fs::create_dir(&folder).unwrap();
+        let mut records = [Record::new(0x40), Record::new(0x42)];
+        (records[0].area[0], records[0].area[27], records[0].n[1]) = (6, 6, 1);
+        let mut world = World::new();
+        let answers: String = records.iter().map(|record| world.line(record) + "\n").collect();
+        let files = ["trace", "a", "b"].map(|file| folder.join(file).to_str().unwrap().to_string());
+        std::fs::write(&files[0], records.map(|record| record.to_bytes()).concat()).unwrap();
+        std::fs::write(&files[1], &answers).unwrap();
+        std::fs::write(&files[2], change(&answers)).unwrap();
+        let same = compare(&files[0], &files[1], &files[2]).unwrap();
+        std::fs::remove_dir_all(folder).unwrap();
+        same
+    }
+
+    #[test]
+    fn one_other_digit_or_a_missing_end_is_a_difference() {
+        assert!(compared("same", str::to_string));
+        assert!(!compared("digit", |answers| answers.replacen("0000000000000001", "0000000000000002", 1)));
+        assert!(!compared("feed", |answers| answers.trim_end().to_string()));
+        assert!(!compared("line", |answers| answers.lines().next().unwrap().to_string() + "\n"));
+        assert!(!compared("more", |answers| answers.to_string() + "\n"));
+    }
+
+    #[test]
+    fn a_number_that_is_no_state_is_not_written() {
+        let mut world = World::new();
+        let mut line = |number: u8, n: [u64; 4]| {
+            let mut record = Record::new(number);
+            (record.area[0], record.area[27], record.n) = (6, 6, n);
+            world.line(&record)
+        };
+        line(0x40, [0, 1, 0, 0]);
+        for (written, state) in [(0, 0), (1, 1), (2, 2), (3, 3), (4, 4), (5, 4), (u64::MAX, 4)] {
+            line(0xeb, [0, written, 0, 0]);
+            assert!(line(0x48, [0; 4]).starts_with(&format!("48 00 {state:016x} ")));
+        }
+    }
 }

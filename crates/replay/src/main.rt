@@ -82,7 +82,7 @@ fn answer(s: States, r: Record, out: &mut [u8]) -> States {
         u.ids = v;
         return answered(u, l.at);
     }
-    if ((0x40 <= call) & (call <= 0x5d)) | ((0xe8 <= call) & (call <= 0xea)) {
+    if ((0x40 <= call) & (call <= 0x5d)) | ((0xe8 <= call) & (call <= 0xeb)) {
         let t = s.paths;
         let l = paths_calls::line(t, r, out, at);
         let v = l.paths;

@@ -1,4 +1,4 @@
-// The calls 40 to 5d, and the writes e8 to ea.
+// The calls 40 to 5d, and the writes e8 to eb.
 use crate::answers;
 use crate::paths_digest;
 use crate::paths_reads;
@@ -125,7 +125,16 @@ fn changed(t: Paths, r: Record, out: &mut [u8], at: usize) -> PathsLine {
     done(paths::mark_verified(t, r.n0), call, out, at)
 }
 
-// The path with one field written: the credit, the lost count, or the largest size.
+// The path with its state written, where the number is that of a state: the Rust has five, and no field for another number.
+fn with_state(x: Path, n: u64) -> Path {
+    let mut y = x;
+    if n < 5 {
+        y.state = n as u8;
+    }
+    y
+}
+
+// The path with one field written: the credit, the lost count, the largest size, or the state.
 fn with_field(x: Path, call: u8, n: u64) -> Path {
     let mut y = x;
     if call == 0xe8 {
@@ -136,8 +145,11 @@ fn with_field(x: Path, call: u8, n: u64) -> Path {
         y.lost_chal = n;
         return y;
     }
-    y.max_challenge_size = n;
-    y
+    if call == 0xea {
+        y.max_challenge_size = n;
+        return y;
+    }
+    with_state(x, n)
 }
 
 // The table with a field of the path written; nothing is tested, and a path that isn't there is left alone.

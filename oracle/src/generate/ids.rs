@@ -30,7 +30,11 @@ impl Generator {
         if self.ids.left == 0 {
             return self.ids_round();
         }
-        self.ids.left -= 1;
+        if self.ids.go_on() {
+            // The others would end in a state that answers little.
+            self.ids.mood = self.rng.pick(&[MIXED, SOURCE, DESTINATION, RETIRE_QUEUE, ADVERTISE_QUEUE]);
+            self.plan_mood(self.world.ids.peek().dcid_limit as u64);
+        }
         if let Some(record) = self.ids.plan.pop_front() {
             return record;
         }
@@ -67,8 +71,8 @@ impl Generator {
             ZERO_LENGTH,
         ]);
         let mood = self.ids.mood;
-        self.ids.left = 50 + self.rng.below(350);
-        self.ids.plan.clear();
+        let calls = 50 + self.rng.below(350);
+        self.ids.begin(calls);
         let mut fresh = self.ids_record("fresh");
         fresh.n[0] = 1 + if self.rng.percent(40) { self.rng.below(3) } else { self.rng.below(16) };
         let zero_source = mood == ZERO_LENGTH && self.rng.percent(60) || self.rng.percent(2);
@@ -79,13 +83,20 @@ impl Generator {
             self.put_pool_id(&mut initial, 1000, zero_destination);
             self.ids.plan.push_back(initial);
         }
-        match mood {
+        if !self.ids.long {
+            self.plan_mood(fresh.n[0]);
+        }
+        fresh
+    }
+
+    /// What the mood needs before it, the destination limit being given.
+    fn plan_mood(&mut self, limit: u64) {
+        match self.ids.mood {
             SOURCE => {
                 let limit = self.rng.below(18);
                 self.plan_ids("set_scid_limit", |record| record.n[0] = limit);
             }
             RETIRE_QUEUE => {
-                let limit = fresh.n[0];
                 for k in 1..=self.rng.below(2 * limit - 1).min(12) {
                     self.plan_append(k);
                 }
@@ -95,7 +106,7 @@ impl Generator {
                     let seq = 500 + self.rng.below(300);
                     self.plan_ids("mark_dcid_to_retire", |record| (record.n[0], record.c) = (seq, true));
                 }
-                self.ids.left += most;
+                self.ids.left += if self.ids.long { 0 } else { most };
             }
             ADVERTISE_QUEUE => {
                 let limit = 2 + self.rng.below(4);
@@ -104,7 +115,7 @@ impl Generator {
                     let seq = self.rng.below(300);
                     self.plan_ids("mark_scid_to_advertise", |record| (record.n[0], record.c) = (seq, true));
                 }
-                self.ids.left += QUEUE as u64;
+                self.ids.left += if self.ids.long { 0 } else { QUEUE as u64 };
             }
             LAST_SEQUENCES => {
                 let next = MAX_SEQUENCE - self.rng.below(6);
@@ -117,7 +128,6 @@ impl Generator {
             }
             _ => {}
         }
-        fresh
     }
 
     fn ids_record(&mut self, name: &str) -> Record {
@@ -143,7 +153,7 @@ impl Generator {
 
     /// Writes that make the state well formed again, or a new round.
     fn repair(&mut self) -> Record {
-        if self.world.ids.peek().dcid_limit == 0 || self.rng.percent(20) {
+        if self.world.ids.peek().dcid_limit == 0 || !self.ids.long && self.rng.percent(20) {
             return self.ids_round();
         }
         let last = self.world.ids.peek().scids.back().map_or(0, |item| item.seq);
@@ -246,7 +256,7 @@ impl Generator {
         if !empty {
             let length = 2 + (k % 19) as usize;
             record.area[0] = length as u8;
-            Rng(k).fill(&mut record.area[1..1 + length]);
+            Rng::new(k).fill(&mut record.area[1..1 + length]);
         }
     }
 
@@ -275,7 +285,7 @@ impl Generator {
     fn put_token(&mut self, record: &mut Record) {
         match self.rng.below(10) {
             0 => record.area[21..37].fill(0),
-            1..=3 => Rng(self.rng.below(3)).fill(&mut record.area[21..37]),
+            1..=3 => Rng::new(self.rng.below(3)).fill(&mut record.area[21..37]),
             _ => self.rng.fill(&mut record.area[21..37]),
         }
     }
