@@ -8,6 +8,7 @@ mod branches;
 mod connection;
 mod digest;
 mod generate;
+mod prologue;
 mod record;
 mod run;
 mod shims;
@@ -88,6 +89,7 @@ pub fn refusal_of(error: &Error) -> u8 {
 }
 
 const USAGE: &str = "usage: oracle gen AREAS CALLS SEED > trace      AREAS: a comma list of values, timers, ids, paths
+       oracle prologue > trace                    what the stored sample begins with
        oracle answer [--branches FILE] < trace > answers
        oracle compare TRACE A B
        oracle trials";
@@ -97,6 +99,7 @@ fn main() {
     let words: Vec<&str> = arguments.iter().map(String::as_str).collect();
     let done = match words[..] {
         ["gen", areas, calls, seed] => run::generate(areas, calls, seed),
+        ["prologue"] => run::write_all(prologue::records()),
         ["answer"] => run::answer(None),
         ["answer", "--branches", file] => run::answer(Some(file)),
         ["compare", trace, a, b] => run::compare(trace, a, b),
