@@ -6,6 +6,7 @@ extern crate self as libc;
 
 mod branches;
 mod connection;
+mod differences;
 mod digest;
 mod generate;
 mod prologue;
@@ -92,7 +93,8 @@ const USAGE: &str = "usage: oracle gen AREAS CALLS SEED > trace      AREAS: a co
        oracle prologue > trace                    what the stored sample begins with
        oracle answer [--branches FILE] < trace > answers
        oracle compare TRACE A B
-       oracle trials";
+       oracle trials
+       oracle differences";
 
 fn main() {
     let arguments: Vec<String> = std::env::args().skip(1).collect();
@@ -104,6 +106,7 @@ fn main() {
         ["answer", "--branches", file] => run::answer(Some(file)),
         ["compare", trace, a, b] => run::compare(trace, a, b),
         ["trials"] => Ok(trials::run()),
+        ["differences"] => Ok(differences::run()),
         _ => Err(USAGE.into()),
     };
     match done {
