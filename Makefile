@@ -25,7 +25,7 @@ bench:
 	bench/run
 
 # The library from C and from Rust: layouts held together, a C program, the crate's tests, a server on loopback whose client changes its address, an
-# installation, and damaged states (FUZZ of them, from SEED).
+# installation, the stored sample, and damaged states (FUZZ of them, from SEED).
 host:
 	rt staticlib vignorasc
 	FUZZ=$(FUZZ) SEED=$(SEED) tests/host/run

@@ -1,46 +1,17 @@
-//! The digest over a sequence of words, and the words of each state, in the order of docs/TRACES.md.
+//! The words of each state, in the order of docs/TRACES.md.
 
 use std::collections::VecDeque;
 
 use crate::connection::cid::{ConnectionIdItem, ConnectionIdMgr};
 use crate::connection::path::PathMap;
 use crate::connection::{paths, timers};
+pub use crate::mix::of_words;
+use crate::mix::Digest;
 use crate::moment;
 
-pub struct Digest(u64);
-
 impl Digest {
-    pub fn new() -> Self {
-        Digest(0)
-    }
-
-    pub fn word(&mut self, word: u64) {
-        let mut h = self.0 ^ word;
-        h = h.wrapping_add(h << 10);
-        h ^= h >> 6;
-        h = h.wrapping_add(h << 3);
-        h ^= h >> 11;
-        self.0 = h;
-    }
-
-    pub fn value(self) -> u64 {
-        self.0
-    }
-
-    fn words(&mut self, words: impl IntoIterator<Item = u64>) {
-        words.into_iter().for_each(|word| self.word(word));
-    }
-
-    fn bytes(&mut self, bytes: &[u8]) {
-        self.words(bytes.iter().map(|byte| *byte as u64));
-    }
-
     fn zeros(&mut self, count: usize) {
         (0..count).for_each(|_| self.word(0));
-    }
-
-    fn flag(&mut self, flag: bool) {
-        self.word(flag as u64);
     }
 
     fn maybe(&mut self, number: Option<u64>) {
@@ -103,12 +74,6 @@ impl Digest {
 
 /// The words of a path, as many as `Digest::path` takes.
 const PATH_WORDS: usize = 2 * 20 + 2 + 2 + 1 + 1 + 9 + 65 + 9;
-
-pub fn of_words(words: impl IntoIterator<Item = u64>) -> u64 {
-    let mut digest = Digest::new();
-    digest.words(words);
-    digest.value()
-}
 
 pub fn of_timers(table: &timers::Timers) -> u64 {
     of_words((0..9).flat_map(|k| {

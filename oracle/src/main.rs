@@ -9,6 +9,7 @@ mod connection;
 mod differences;
 mod digest;
 mod generate;
+mod mix;
 mod prologue;
 mod record;
 mod run;
