@@ -150,18 +150,20 @@ mod tests {
 
     #[test]
     fn every_field_of_the_paths_is_taken() {
-        let pair = |record: &mut Record, port| {
-            (record.area[0], record.area[27], record.area[18]) = (4, 4, port);
+        let pair = |record: &mut Record, port| (record.area[0], record.area[27], record.area[18]) = (4, 4, port);
+        let fresh = |record: &mut Record, port, size, limit, factor, server| {
+            pair(record, port);
+            (record.n, record.c) = ([size, limit, factor, 0], server);
         };
         all_differ(
             Area::Paths,
             &[
-                ("fresh", &|r| (pair(r, 1), r.n = [1200, 2, 3, 0], r.c = true).0),
-                ("fresh", &|r| (pair(r, 1), r.n = [1200, 2, 3, 0]).0),
-                ("fresh", &|r| (pair(r, 1), r.n = [1200, 2, 4, 0], r.c = true).0),
-                ("fresh", &|r| (pair(r, 1), r.n = [1200, 3, 4, 0], r.c = true).0),
-                ("fresh", &|r| (pair(r, 1), r.n = [1201, 3, 4, 0], r.c = true).0),
-                ("fresh", &|r| (pair(r, 2), r.n = [1201, 3, 4, 0], r.c = true).0),
+                ("fresh", &|r| fresh(r, 1, 1200, 2, 3, true)),
+                ("fresh", &|r| fresh(r, 1, 1200, 2, 3, false)),
+                ("fresh", &|r| fresh(r, 1, 1200, 2, 4, true)),
+                ("fresh", &|r| fresh(r, 1, 1200, 3, 4, true)),
+                ("fresh", &|r| fresh(r, 1, 1201, 3, 4, true)),
+                ("fresh", &|r| fresh(r, 2, 1201, 3, 4, true)),
                 ("enable_multipath", &|_| {}),
                 ("insert_path", &|r| pair(r, 2)),
                 ("set_scid_seq", &|r| (r.b, r.n) = (true, [1, 0, 0, 0])),
@@ -188,14 +190,18 @@ mod tests {
     #[test]
     fn every_field_of_the_ids_is_taken() {
         let id = |record: &mut Record, k| (record.area[0], record.area[1]) = (1, k);
+        let fresh = |record: &mut Record, k, limit, path, token| {
+            id(record, k);
+            (record.n, record.a) = ([limit, path, 0, 0], token);
+        };
         all_differ(
             Area::Ids,
             &[
-                ("fresh", &|r| (id(r, 1), r.n = [1, 0, 0, 0]).0),
-                ("fresh", &|r| (id(r, 1), r.n = [2, 0, 0, 0]).0),
-                ("fresh", &|r| (id(r, 1), r.n = [2, 1, 0, 0]).0),
-                ("fresh", &|r| (id(r, 2), r.n = [2, 1, 0, 0]).0),
-                ("fresh", &|r| (id(r, 2), r.n = [2, 1, 0, 0], r.a = true).0),
+                ("fresh", &|r| fresh(r, 1, 1, 0, false)),
+                ("fresh", &|r| fresh(r, 1, 2, 0, false)),
+                ("fresh", &|r| fresh(r, 1, 2, 1, false)),
+                ("fresh", &|r| fresh(r, 2, 2, 1, false)),
+                ("fresh", &|r| fresh(r, 2, 2, 1, true)),
                 ("fresh", &|r| (r.n, r.a) = ([2, 1, 0, 0], true)),
                 ("set_initial_dcid", &|r| id(r, 3)),
                 ("set_initial_dcid", &|_| {}),
