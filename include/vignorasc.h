@@ -11,7 +11,8 @@
  *
  * Every answer begins with `refusal`: 0 where the call was accepted. On a refusal every other field is zero, and RULES.md, "Refusals", says what the state is left as.
  *
- * tests/host holds this file to the library's own definitions: every struct, every offset, every prototype, every number of an enum. */
+ * tools/face writes the structs and prototypes from the library's own definitions, and tests/host holds every offset and every number of an enum to them.
+ * The comments are by hand. */
 #ifndef VIGNORASC_H
 #define VIGNORASC_H
 
@@ -256,12 +257,12 @@ vig_numbered vig_ids_next_scid_to_advertise(const vig_ids *t);
 vig_numbered vig_ids_next_dcid_to_retire(const vig_ids *t);
 vig_frame_answer vig_ids_create_new_connection_id_frame(const vig_ids *t, uint64_t seq);
 vig_flagged vig_ids_need_send_cid_control_frames(const vig_ids *t);
-vig_flagged vig_ids_zero_length_scid(const vig_ids *t);
 vig_flagged vig_ids_zero_length_dcid(const vig_ids *t);
-vig_counted vig_ids_scid_count(const vig_ids *t);
-vig_item_answer vig_ids_scid_at(const vig_ids *t, uint64_t place);
+vig_flagged vig_ids_zero_length_scid(const vig_ids *t);
 vig_counted vig_ids_dcid_count(const vig_ids *t);
 vig_item_answer vig_ids_dcid_at(const vig_ids *t, uint64_t place);
+vig_counted vig_ids_scid_count(const vig_ids *t);
+vig_item_answer vig_ids_scid_at(const vig_ids *t, uint64_t place);
 
 /* ---- RULES.md, "Well-formed paths" ---- */
 
@@ -359,27 +360,28 @@ typedef struct vig_responded_answer {
 /* ---- RULES.md, "Paths" ---- */
 
 vig_paths_done_out vig_paths_fresh(vig_four_tuple pair, uint64_t max_datagram_size, uint64_t limit, uint64_t factor, bool server);
-vig_counted vig_paths_insert_path(vig_paths *t, vig_four_tuple pair, uint64_t max_datagram_size);
-vig_counted vig_paths_len(const vig_paths *t);
+
+vig_address_answer vig_paths_local_addr(const vig_paths *t, uint64_t id);
+vig_address_answer vig_paths_remote_addr(const vig_paths *t, uint64_t id);
+vig_flagged vig_paths_validated(const vig_paths *t, uint64_t id);
+vig_flagged vig_paths_active(const vig_paths *t, uint64_t id);
+vig_counted vig_paths_state(const vig_paths *t, uint64_t id);
 vig_path_answer vig_paths_get(const vig_paths *t, uint64_t id);
 vig_numbered vig_paths_get_path_id(const vig_paths *t, vig_four_tuple pair);
 vig_paths_found_answer vig_paths_get_active(const vig_paths *t);
-vig_address_answer vig_paths_local_addr(const vig_paths *t, uint64_t id);
-vig_address_answer vig_paths_remote_addr(const vig_paths *t, uint64_t id);
-vig_counted vig_paths_state(const vig_paths *t, uint64_t id);
-vig_flagged vig_paths_validated(const vig_paths *t, uint64_t id);
-vig_flagged vig_paths_active(const vig_paths *t, uint64_t id);
+vig_counted vig_paths_insert_path(vig_paths *t, vig_four_tuple pair, uint64_t max_datagram_size);
+vig_counted vig_paths_len(const vig_paths *t);
 
 /* ---- RULES.md, "Challenges" ---- */
 
+vig_numbered vig_paths_pop_recv_chal(vig_paths *t, uint64_t id);
 vig_flagged vig_paths_path_chal_initiated(const vig_paths *t, uint64_t id);
+vig_done vig_paths_initiate_path_chal(vig_paths *t, uint64_t id);
 vig_flagged vig_paths_need_send_validation_frames(const vig_paths *t, uint64_t id);
 vig_flagged vig_paths_need_expand_padding_frames(const vig_paths *t, uint64_t id);
-vig_done vig_paths_initiate_path_chal(vig_paths *t, uint64_t id);
-vig_numbered vig_paths_pop_recv_chal(vig_paths *t, uint64_t id);
 vig_done vig_paths_on_path_chal_received(vig_paths *t, uint64_t id, uint64_t data);
-vig_done vig_paths_on_path_chal_sent(vig_paths *t, uint64_t id, uint64_t data, uint64_t size, vig_moment sent);
 vig_responded_answer vig_paths_on_path_resp_received(vig_paths *t, uint64_t id, uint64_t data, vig_moment moment);
+vig_done vig_paths_on_path_chal_sent(vig_paths *t, uint64_t id, uint64_t data, uint64_t size, vig_moment sent);
 vig_done vig_paths_on_path_chal_timeout(vig_paths *t, vig_moment moment);
 vig_timed vig_paths_min_path_chal_timer(const vig_paths *t);
 
@@ -396,9 +398,9 @@ vig_done vig_paths_enable_multipath(vig_paths *t);
 
 /* ---- RULES.md, "Fields a host may set"; an absent sequence is 0 ---- */
 
+vig_done vig_paths_set_active(vig_paths *t, uint64_t id, bool on);
 vig_done vig_paths_set_scid_seq(vig_paths *t, uint64_t id, bool has, uint64_t seq);
 vig_done vig_paths_set_dcid_seq(vig_paths *t, uint64_t id, bool has, uint64_t seq);
-vig_done vig_paths_set_active(vig_paths *t, uint64_t id, bool on);
 vig_done vig_paths_mark_verified(vig_paths *t, uint64_t id);
 
 #ifdef __cplusplus

@@ -21,8 +21,7 @@ pub mod timer {
 pub mod cid {
     include!(concat!(env!("OUT_DIR"), "/cid.rs"));
 
-    use super::ids::{Ids, Item, Queue, Table};
-    use super::values::{ConnectionId as Id, Token};
+    use crate::ffi::{ConnectionId as Id, Ids, Item, Queue, Table, Token};
 
     impl ConnectionIdMgr {
         /// What ours would be in its place.
@@ -70,8 +69,8 @@ pub mod cid {
 pub mod path {
     include!(concat!(env!("OUT_DIR"), "/path.rs"));
 
-    use super::paths::{Address, Challenge, Pair, Path as Ours, Paths, Received, Sent, NO_PATH};
-    use super::values::Moment;
+    use super::paths::NO_PATH;
+    use crate::ffi::{Address, Challenge, FourTuple as Pair, Moment, Path as Ours, Paths, Received, Sent};
 
     impl PathMap {
         /// A private field that some calls are given.

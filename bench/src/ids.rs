@@ -4,174 +4,15 @@ use std::hint::black_box;
 use std::mem::size_of;
 
 use super::cid::ConnectionIdMgr as Rust;
-use super::values::{ConnectionId, Counted, Done, Flagged, Numbered, ResetToken, Token};
-use crate::{answers, Answer, Area, Call, ConnectionId as RustId, Given, Gives, Row};
+use crate::by_value::*;
+use crate::ffi::*;
+use crate::{answers, gives, Answer, Area, Call, ConnectionId as RustId, Given, Gives, Row};
 
-#[derive(Clone, Copy, PartialEq)]
-#[repr(C)]
-pub struct Item {
-    pub seq: u64,
-    pub path: u64,
-    pub cid: ConnectionId,
-    pub token: Token,
-    pub has_path: bool,
-}
+answers!(ItemAnswer, IdsFoundAnswer, FrameAnswer, RetiredAnswer);
 
-#[derive(Clone, Copy, PartialEq)]
-#[repr(C)]
-pub struct Table {
-    pub items: [Item; 31],
-    pub count: usize,
-}
-
-#[derive(Clone, Copy, PartialEq)]
-#[repr(C)]
-pub struct Queue {
-    pub items: [u64; 128],
-    pub count: usize,
-}
-
-#[derive(Clone, Copy, PartialEq)]
-#[repr(C)]
-pub struct Ids {
-    pub source: Table,
-    pub destination: Table,
-    pub capacity: usize,
-    pub dlimit: u64,
-    pub slimit: u64,
-    pub zero_source: bool,
-    pub zero_destination: bool,
-    pub next: u64,
-    pub rpt: u64,
-    pub largest: u64,
-    pub advertise: Queue,
-    pub retire: Queue,
-}
-
-#[derive(PartialEq)]
-#[repr(C)]
-struct UsedSeq {
-    seq: u64,
-    path: u64,
-}
-
-#[derive(PartialEq)]
-#[repr(C)]
-struct Used {
-    pairs: [UsedSeq; 31],
-    count: usize,
-}
-
-#[derive(PartialEq)]
-#[repr(C)]
-struct ItemAnswer {
-    refusal: u8,
-    present: bool,
-    item: Item,
-}
-
-#[derive(PartialEq)]
-#[repr(C)]
-struct FoundAnswer {
-    refusal: u8,
-    present: bool,
-    has_path: bool,
-    seq: u64,
-    path: u64,
-}
-
-#[derive(PartialEq)]
-#[repr(C)]
-struct FrameAnswer {
-    refusal: u8,
-    seq: u64,
-    retire_prior_to: u64,
-    cid: ConnectionId,
-    token: [u8; 16],
-}
-
-#[derive(PartialEq)]
-#[repr(C)]
-struct RetiredAnswer {
-    refusal: u8,
-    used: Used,
-}
-
-answers!(ItemAnswer, FoundAnswer, FrameAnswer, RetiredAnswer);
-
-/// What a call that changes the state gives by value.
-#[repr(C)]
-struct Out<A> {
-    ids: Ids,
-    answer: A,
-}
-
-impl<A> Gives<Ids, A> for Out<A> {
-    fn store(self, ids: &mut Ids) -> A {
-        *ids = self.ids;
-        self.answer
-    }
-}
+gives!(Ids in ids: IdsDoneOut Done, IssuedOut Counted, FreedOut Numbered, RetiredOut RetiredAnswer);
 
 type Cid = ConnectionId;
-
-extern "C" {
-    fn vig_ids_fresh(dlimit: u64, cid: Cid, path: u64, token: Token) -> Out<Done>;
-    fn vig_ids_set_initial_dcid(t: &mut Ids, cid: Cid, token: Token, has: bool, path: u64) -> Done;
-    fn vig_ids_set_scid_limit(t: &mut Ids, n: u64) -> Done;
-    fn vig_ids_get_scid(t: &Ids, seq: u64) -> ItemAnswer;
-    fn vig_ids_get_dcid(t: &Ids, seq: u64) -> ItemAnswer;
-    fn vig_ids_find_scid(t: &Ids, cid: Cid) -> FoundAnswer;
-    fn vig_ids_mark_scid_used(t: &mut Ids, seq: u64, path: u64) -> Done;
-    fn vig_ids_mark_dcid_used(t: &mut Ids, seq: u64, path: u64) -> Done;
-    fn vig_ids_unused_scids(t: &Ids) -> Counted;
-    fn vig_ids_unused_dcids(t: &Ids) -> Counted;
-    fn vig_ids_lowest_unused_dcid_seq(t: &Ids) -> Numbered;
-    fn vig_ids_add_scid(t: &mut Ids, cid: Cid, token: Token, on: bool, has: bool, path: u64, leave: bool) -> Counted;
-    fn vig_ids_add_dcid(t: &mut Ids, cid: Cid, seq: u64, token: ResetToken, rpt: u64) -> RetiredAnswer;
-    fn vig_ids_retire_scid(t: &mut Ids, seq: u64, packet: Cid) -> Numbered;
-    fn vig_ids_mark_scid_to_advertise(t: &mut Ids, seq: u64, on: bool) -> Done;
-    fn vig_ids_mark_dcid_to_retire(t: &mut Ids, seq: u64, on: bool) -> Done;
-    fn vig_ids_next_scid_to_advertise(t: &Ids) -> Numbered;
-    fn vig_ids_next_dcid_to_retire(t: &Ids) -> Numbered;
-    fn vig_ids_create_new_connection_id_frame(t: &Ids, seq: u64) -> FrameAnswer;
-    fn vig_ids_need_send_cid_control_frames(t: &Ids) -> Flagged;
-    fn vig_ids_zero_length_scid(t: &Ids) -> Flagged;
-    fn vig_ids_zero_length_dcid(t: &Ids) -> Flagged;
-    fn vig_ids_scid_count(t: &Ids) -> Counted;
-    fn vig_ids_scid_at(t: &Ids, place: u64) -> ItemAnswer;
-    fn vig_ids_dcid_count(t: &Ids) -> Counted;
-    fn vig_ids_dcid_at(t: &Ids, place: u64) -> ItemAnswer;
-}
-
-extern "C" {
-    fn val_ids_fresh(dlimit: u64, cid: Cid, path: u64, token: Token) -> Out<Done>;
-    fn val_ids_set_initial_dcid(s: Ids, cid: Cid, token: Token, has: bool, path: u64) -> Out<Done>;
-    fn val_ids_set_scid_limit(s: Ids, n: u64) -> Out<Done>;
-    fn val_ids_get_scid(s: Ids, seq: u64) -> ItemAnswer;
-    fn val_ids_get_dcid(s: Ids, seq: u64) -> ItemAnswer;
-    fn val_ids_find_scid(s: Ids, cid: Cid) -> FoundAnswer;
-    fn val_ids_mark_scid_used(s: Ids, seq: u64, path: u64) -> Out<Done>;
-    fn val_ids_mark_dcid_used(s: Ids, seq: u64, path: u64) -> Out<Done>;
-    fn val_ids_unused_scids(s: Ids) -> Counted;
-    fn val_ids_unused_dcids(s: Ids) -> Counted;
-    fn val_ids_lowest_unused_dcid_seq(s: Ids) -> Numbered;
-    fn val_ids_add_scid(s: Ids, cid: Cid, token: Token, on: bool, has: bool, path: u64, leave: bool) -> Out<Counted>;
-    fn val_ids_add_dcid(s: Ids, cid: Cid, seq: u64, token: ResetToken, rpt: u64) -> Out<RetiredAnswer>;
-    fn val_ids_retire_scid(s: Ids, seq: u64, packet: Cid) -> Out<Numbered>;
-    fn val_ids_mark_scid_to_advertise(s: Ids, seq: u64, on: bool) -> Out<Done>;
-    fn val_ids_mark_dcid_to_retire(s: Ids, seq: u64, on: bool) -> Out<Done>;
-    fn val_ids_next_scid_to_advertise(s: Ids) -> Numbered;
-    fn val_ids_next_dcid_to_retire(s: Ids) -> Numbered;
-    fn val_ids_create_new_connection_id_frame(s: Ids, seq: u64) -> FrameAnswer;
-    fn val_ids_need_send_cid_control_frames(s: Ids) -> Flagged;
-    fn val_ids_zero_length_scid(s: Ids) -> Flagged;
-    fn val_ids_zero_length_dcid(s: Ids) -> Flagged;
-    fn val_ids_scid_count(s: Ids) -> Counted;
-    fn val_ids_scid_at(s: Ids, place: u64) -> ItemAnswer;
-    fn val_ids_dcid_count(s: Ids) -> Counted;
-    fn val_ids_dcid_at(s: Ids, place: u64) -> ItemAnswer;
-}
 
 /// The test, plainly written: the sixteen conjuncts of docs/RULES.md, "Well-formed IDs", each with its number.
 impl Ids {
@@ -326,31 +167,31 @@ trait Made {
 
 impl Made for Ids {
     fn fresh(dlimit: u64, cid: Cid, token: Token) -> Self {
-        unsafe { vig_ids_fresh(dlimit, cid, 0, token) }.ids
+        vig_ids_fresh(dlimit, cid, 0, token).ids
     }
 
     fn set_scid_limit(&mut self, n: u64) {
-        crate::accepted(&unsafe { vig_ids_set_scid_limit(self, n) });
+        crate::accepted(&vig_ids_set_scid_limit(self, n));
     }
 
     fn add_scid(&mut self, cid: Cid, token: Token) {
-        crate::accepted(&unsafe { vig_ids_add_scid(self, cid, token, true, false, 0, true) });
+        crate::accepted(&vig_ids_add_scid(self, cid, token, true, false, 0, true));
     }
 
     fn announced(&mut self, seq: u64) {
-        crate::accepted(&unsafe { vig_ids_mark_scid_to_advertise(self, seq, false) });
+        crate::accepted(&vig_ids_mark_scid_to_advertise(self, seq, false));
     }
 
     fn set_initial_dcid(&mut self, cid: Cid, token: Token) {
-        crate::accepted(&unsafe { vig_ids_set_initial_dcid(self, cid, token, true, 0) });
+        crate::accepted(&vig_ids_set_initial_dcid(self, cid, token, true, 0));
     }
 
     fn add_dcid(&mut self, cid: Cid, seq: u64, token: Token, rpt: u64) {
-        crate::accepted(&unsafe { vig_ids_add_dcid(self, cid, seq, token.given(), rpt) });
+        crate::accepted(&vig_ids_add_dcid(self, cid, seq, token.given(), rpt));
     }
 
     fn mark_dcid_used(&mut self, seq: u64) {
-        crate::accepted(&unsafe { vig_ids_mark_dcid_used(self, seq, 0) });
+        crate::accepted(&vig_ids_mark_dcid_used(self, seq, 0));
     }
 }
 
@@ -532,8 +373,8 @@ fn rows(full: bool) -> Vec<Row> {
         name: "fresh",
         test: |_: &Ids, (dlimit, cid, token): &(u64, Cid, Token)| (1..=16).contains(dlimit) && cid.formed() && token.formed(),
         tuned: |_: &Ids, (dlimit, cid, token): &(u64, Cid, Token)| (1..=16).contains(dlimit) & cid.formed() & token.formed(),
-        lent: |s: &mut Ids, (dlimit, cid, token)| unsafe { vig_ids_fresh(dlimit, cid, 0, token) }.store(s),
-        by_value: |_: &Ids, (dlimit, cid, token)| unsafe { val_ids_fresh(dlimit, cid, 0, token) },
+        lent: |s: &mut Ids, (dlimit, cid, token)| vig_ids_fresh(dlimit, cid, 0, token).store(s),
+        by_value: |_: &Ids, (dlimit, cid, token)| val_ids_fresh(dlimit, cid, 0, token),
         // What stood there before is not dropped.
         rust: |m: &mut Rust, (dlimit, cid, token): (usize, RustId, u128)| unsafe {
             std::ptr::write(m, Rust::new(dlimit, &cid, 0, Some(token)))
@@ -550,88 +391,88 @@ fn rows(full: bool) -> Vec<Row> {
         "set_initial_dcid",
         ((cid, key), (rust_cid, rust_key)),
         |(cid, token)| cid.formed() && token.formed(),
-        |s, (cid, token)| unsafe { vig_ids_set_initial_dcid(s, cid, token, true, 0) },
-        |s, (cid, token)| unsafe { val_ids_set_initial_dcid(*s, cid, token, true, 0) },
+        |s, (cid, token)| vig_ids_set_initial_dcid(s, cid, token, true, 0),
+        |s, (cid, token)| val_ids_set_initial_dcid(*s, cid, token, true, 0),
         |m, (cid, token)| m.set_initial_dcid(cid, Some(token), Some(0)),
     );
     r.add(
         "set_scid_limit",
         both(limit),
         any,
-        |s, n| unsafe { vig_ids_set_scid_limit(s, n) },
-        |s, n| unsafe { val_ids_set_scid_limit(*s, n) },
+        |s, n| vig_ids_set_scid_limit(s, n),
+        |s, n| val_ids_set_scid_limit(*s, n),
         |m, n| m.set_scid_limit(n),
     );
     r.add(
         "get_scid",
         both(source),
         any,
-        |s, seq| unsafe { vig_ids_get_scid(s, seq) },
-        |s, seq| unsafe { val_ids_get_scid(*s, seq) },
+        |s, seq| vig_ids_get_scid(s, seq),
+        |s, seq| val_ids_get_scid(*s, seq),
         |m, seq| _ = black_box(m.get_scid(seq)),
     );
     r.add(
         "get_dcid",
         both(destination),
         any,
-        |s, seq| unsafe { vig_ids_get_dcid(s, seq) },
-        |s, seq| unsafe { val_ids_get_dcid(*s, seq) },
+        |s, seq| vig_ids_get_dcid(s, seq),
+        |s, seq| val_ids_get_dcid(*s, seq),
         |m, seq| _ = black_box(m.get_dcid(seq)),
     );
     r.add(
         "find_scid",
         id(SOURCE, source),
         Cid::formed,
-        |s, cid| unsafe { vig_ids_find_scid(s, cid) },
-        |s, cid| unsafe { val_ids_find_scid(*s, cid) },
+        |s, cid| vig_ids_find_scid(s, cid),
+        |s, cid| val_ids_find_scid(*s, cid),
         |m, cid| m.find_scid(&cid),
     );
     r.add(
         "mark_scid_used",
         both(source),
         any,
-        |s, seq| unsafe { vig_ids_mark_scid_used(s, seq, 1) },
-        |s, seq| unsafe { val_ids_mark_scid_used(*s, seq, 1) },
+        |s, seq| vig_ids_mark_scid_used(s, seq, 1),
+        |s, seq| val_ids_mark_scid_used(*s, seq, 1),
         |m, seq| m.mark_scid_used(seq, 1),
     );
     r.add(
         "mark_dcid_used",
         both(destination),
         any,
-        |s, seq| unsafe { vig_ids_mark_dcid_used(s, seq, 1) },
-        |s, seq| unsafe { val_ids_mark_dcid_used(*s, seq, 1) },
+        |s, seq| vig_ids_mark_dcid_used(s, seq, 1),
+        |s, seq| val_ids_mark_dcid_used(*s, seq, 1),
         |m, seq| m.mark_dcid_used(seq, 1),
     );
     r.add(
         "unused_scids",
         both(0),
         any,
-        |s, _| unsafe { vig_ids_unused_scids(s) },
-        |s, _| unsafe { val_ids_unused_scids(*s) },
+        |s, _| vig_ids_unused_scids(s),
+        |s, _| val_ids_unused_scids(*s),
         |m, _| m.unused_scids(),
     );
     r.add(
         "unused_dcids",
         both(0),
         any,
-        |s, _| unsafe { vig_ids_unused_dcids(s) },
-        |s, _| unsafe { val_ids_unused_dcids(*s) },
+        |s, _| vig_ids_unused_dcids(s),
+        |s, _| val_ids_unused_dcids(*s),
         |m, _| m.unused_dcids(),
     );
     r.add(
         "lowest_unused_dcid_seq",
         both(0),
         any,
-        |s, _| unsafe { vig_ids_lowest_unused_dcid_seq(s) },
-        |s, _| unsafe { val_ids_lowest_unused_dcid_seq(*s) },
+        |s, _| vig_ids_lowest_unused_dcid_seq(s),
+        |s, _| val_ids_lowest_unused_dcid_seq(*s),
         |m, _| m.lowest_unused_dcid_seq(),
     );
     r.add(
         "add_scid",
         ((new.0 .0, new.1 .0), (new.0 .1, new.1 .1)),
         |(cid, token)| cid.formed() && token.formed(),
-        |s, (cid, token)| unsafe { vig_ids_add_scid(s, cid, token, true, false, 0, true) },
-        |s, (cid, token)| unsafe { val_ids_add_scid(*s, cid, token, true, false, 0, true) },
+        |s, (cid, token)| vig_ids_add_scid(s, cid, token, true, false, 0, true),
+        |s, (cid, token)| val_ids_add_scid(*s, cid, token, true, false, 0, true),
         |m, (cid, token)| m.add_scid(cid, Some(token), true, None, true),
     );
     let seq = room.destination + 1;
@@ -642,8 +483,8 @@ fn rows(full: bool) -> Vec<Row> {
             name,
             ((cid, seq, key, rpt), (rust_cid, seq, rust_key, rpt)),
             |(cid, ..)| cid.formed(),
-            |s, (cid, seq, token, rpt)| unsafe { vig_ids_add_dcid(s, cid, seq, token.given(), rpt) },
-            |s, (cid, seq, token, rpt)| unsafe { val_ids_add_dcid(*s, cid, seq, token.given(), rpt) },
+            |s, (cid, seq, token, rpt)| vig_ids_add_dcid(s, cid, seq, token.given(), rpt),
+            |s, (cid, seq, token, rpt)| val_ids_add_dcid(*s, cid, seq, token.given(), rpt),
             |m, (cid, seq, token, rpt)| m.add_dcid(cid, seq, token, rpt),
         );
     }
@@ -652,8 +493,8 @@ fn rows(full: bool) -> Vec<Row> {
         "retire_scid",
         ((0, packet), (0, rust_packet)),
         |(_, packet)| packet.formed(),
-        |s, (seq, packet)| unsafe { vig_ids_retire_scid(s, seq, packet) },
-        |s, (seq, packet)| unsafe { val_ids_retire_scid(*s, seq, packet) },
+        |s, (seq, packet)| vig_ids_retire_scid(s, seq, packet),
+        |s, (seq, packet)| val_ids_retire_scid(*s, seq, packet),
         |m, (seq, packet)| m.retire_scid(seq, &packet),
     );
     for (name, on) in [("mark_scid_to_advertise, on", true), ("mark_scid_to_advertise, off", false)] {
@@ -661,8 +502,8 @@ fn rows(full: bool) -> Vec<Row> {
             name,
             ((source, on), (source, on)),
             any,
-            |s, (seq, on)| unsafe { vig_ids_mark_scid_to_advertise(s, seq, on) },
-            |s, (seq, on)| unsafe { val_ids_mark_scid_to_advertise(*s, seq, on) },
+            |s, (seq, on)| vig_ids_mark_scid_to_advertise(s, seq, on),
+            |s, (seq, on)| val_ids_mark_scid_to_advertise(*s, seq, on),
             |m, (seq, on)| m.mark_scid_to_advertise(seq, on),
         );
     }
@@ -671,8 +512,8 @@ fn rows(full: bool) -> Vec<Row> {
             name,
             ((RETIRED - 1, on), (RETIRED - 1, on)),
             any,
-            |s, (seq, on)| unsafe { vig_ids_mark_dcid_to_retire(s, seq, on) },
-            |s, (seq, on)| unsafe { val_ids_mark_dcid_to_retire(*s, seq, on) },
+            |s, (seq, on)| vig_ids_mark_dcid_to_retire(s, seq, on),
+            |s, (seq, on)| val_ids_mark_dcid_to_retire(*s, seq, on),
             |m, (seq, on)| m.mark_dcid_to_retire(seq, on),
         );
     }
@@ -680,80 +521,80 @@ fn rows(full: bool) -> Vec<Row> {
         "next_scid_to_advertise",
         both(0),
         any,
-        |s, _| unsafe { vig_ids_next_scid_to_advertise(s) },
-        |s, _| unsafe { val_ids_next_scid_to_advertise(*s) },
+        |s, _| vig_ids_next_scid_to_advertise(s),
+        |s, _| val_ids_next_scid_to_advertise(*s),
         |m, _| m.next_scid_to_advertise(),
     );
     r.add(
         "next_dcid_to_retire",
         both(0),
         any,
-        |s, _| unsafe { vig_ids_next_dcid_to_retire(s) },
-        |s, _| unsafe { val_ids_next_dcid_to_retire(*s) },
+        |s, _| vig_ids_next_dcid_to_retire(s),
+        |s, _| val_ids_next_dcid_to_retire(*s),
         |m, _| m.next_dcid_to_retire(),
     );
     r.add(
         "create_new_connection_id_frame",
         both(source),
         any,
-        |s, seq| unsafe { vig_ids_create_new_connection_id_frame(s, seq) },
-        |s, seq| unsafe { val_ids_create_new_connection_id_frame(*s, seq) },
+        |s, seq| vig_ids_create_new_connection_id_frame(s, seq),
+        |s, seq| val_ids_create_new_connection_id_frame(*s, seq),
         |m, seq| m.create_new_connection_id_frame(seq),
     );
     r.add(
         "need_send_cid_control_frames",
         both(0),
         any,
-        |s, _| unsafe { vig_ids_need_send_cid_control_frames(s) },
-        |s, _| unsafe { val_ids_need_send_cid_control_frames(*s) },
+        |s, _| vig_ids_need_send_cid_control_frames(s),
+        |s, _| val_ids_need_send_cid_control_frames(*s),
         |m, _| m.need_send_cid_control_frames(),
     );
     r.add(
         "zero_length_scid",
         both(0),
         any,
-        |s, _| unsafe { vig_ids_zero_length_scid(s) },
-        |s, _| unsafe { val_ids_zero_length_scid(*s) },
+        |s, _| vig_ids_zero_length_scid(s),
+        |s, _| val_ids_zero_length_scid(*s),
         |m, _| m.zero_length_scid(),
     );
     r.add(
         "zero_length_dcid",
         both(0),
         any,
-        |s, _| unsafe { vig_ids_zero_length_dcid(s) },
-        |s, _| unsafe { val_ids_zero_length_dcid(*s) },
+        |s, _| vig_ids_zero_length_dcid(s),
+        |s, _| val_ids_zero_length_dcid(*s),
         |m, _| m.zero_length_dcid(),
     );
     r.add(
         "scid_count",
         both(0),
         any,
-        |s, _| unsafe { vig_ids_scid_count(s) },
-        |s, _| unsafe { val_ids_scid_count(*s) },
+        |s, _| vig_ids_scid_count(s),
+        |s, _| val_ids_scid_count(*s),
         |m, _| m.scid_iter().count(),
     );
     r.add(
         "scid_at",
         both(source),
         any,
-        |s, place| unsafe { vig_ids_scid_at(s, place) },
-        |s, place| unsafe { val_ids_scid_at(*s, place) },
+        |s, place| vig_ids_scid_at(s, place),
+        |s, place| val_ids_scid_at(*s, place),
         |m, place| _ = black_box(m.scid_iter().nth(place as usize)),
     );
     r.add(
         "dcid_count",
         both(0),
         any,
-        |s, _| unsafe { vig_ids_dcid_count(s) },
-        |s, _| unsafe { val_ids_dcid_count(*s) },
+        |s, _| vig_ids_dcid_count(s),
+        |s, _| val_ids_dcid_count(*s),
         |m, _| m.dcid_iter().count(),
     );
     r.add(
         "dcid_at",
         both(source), // the last place of this table too
         any,
-        |s, place| unsafe { vig_ids_dcid_at(s, place) },
-        |s, place| unsafe { val_ids_dcid_at(*s, place) },
+        |s, place| vig_ids_dcid_at(s, place),
+        |s, place| val_ids_dcid_at(*s, place),
         |m, place| _ = black_box(m.dcid_iter().nth(place as usize)),
     );
     r.rows

@@ -4,6 +4,11 @@
 // error.rs names libc for one type.
 extern crate self as libc;
 
+// Ours: first, since its macro declares the structs of the other too.
+#[macro_use]
+#[path = "../../rust/src/ffi.rs"]
+mod ffi;
+mod by_value;
 mod connection;
 #[allow(dead_code)]
 #[path = "../../oracle/src/shims.rs"]
@@ -25,6 +30,10 @@ include!(concat!(env!("OUT_DIR"), "/lib_parts.rs"));
 
 #[allow(non_camel_case_types)]
 pub type ssize_t = isize;
+
+#[link(name = "vignorasc", kind = "static")]
+#[link(name = "by_value", kind = "static")]
+extern "C" {}
 
 // Never used: so that cargo links again when rt has written the archives again.
 const _: [&[u8]; 2] =
@@ -151,6 +160,19 @@ impl<S, Out: Answer> Gives<S, Out> for Out {
     fn store(self, _: &mut S) -> Out {
         self
     }
+}
+
+/// Structs that hold a state and an answer, of which kind is said after each.
+#[macro_export]
+macro_rules! gives {
+    ($state:ident in $field:ident: $($out:ident $answer:ident),*) => {
+        $(impl $crate::Gives<$state, $answer> for $out {
+            fn store(self, state: &mut $state) -> $answer {
+                *state = self.$field;
+                self.answer
+            }
+        })*
+    };
 }
 
 /// The most calls of one run.

@@ -5,201 +5,13 @@ use std::mem::size_of;
 use std::net::{Ipv4Addr, SocketAddr, SocketAddrV4};
 
 use super::path::{Path as RustPath, PathMap as Rust};
-use super::values::{Counted, Done, Flagged, Moment, Numbered, Timed};
-use crate::{answers, Answer, Area, Call, FourTuple, Given, Gives, RecoveryConfig, Row};
+use crate::by_value::*;
+use crate::ffi::{FourTuple as Pair, *};
+use crate::{answers, gives, Answer, Area, Call, FourTuple, Given, Gives, RecoveryConfig, Row};
 
-#[derive(Clone, Copy, PartialEq)]
-#[repr(C)]
-pub struct Address {
-    pub ip: [u8; 16],
-    pub flow: u32,
-    pub scope: u32,
-    pub port: u16,
-    pub kind: u8,
-}
+answers!(PathAnswer, PathsFoundAnswer, AddressAnswer, RespondedAnswer);
 
-#[derive(Clone, Copy, PartialEq)]
-#[repr(C)]
-pub struct Pair {
-    pub local: Address,
-    pub remote: Address,
-}
-
-#[derive(Clone, Copy, PartialEq)]
-#[repr(C)]
-pub struct Received {
-    pub items: [u64; 8],
-    pub count: usize,
-}
-
-#[derive(Clone, Copy, PartialEq)]
-#[repr(C)]
-pub struct Challenge {
-    pub data: u64,
-    pub size: u64,
-    pub sent: Moment,
-    pub deadline: Moment,
-}
-
-#[derive(Clone, Copy, PartialEq)]
-#[repr(C)]
-pub struct Sent {
-    pub items: [Challenge; 16],
-    pub count: usize,
-}
-
-#[derive(Clone, Copy, PartialEq)]
-#[repr(C)]
-pub struct Path {
-    pub pair: Pair,
-    pub recv_chals: Received,
-    pub sent_chals: Sent,
-    pub max_datagram_size: u64,
-    pub scid_seq: u64,
-    pub dcid_seq: u64,
-    pub lost_chal: u64,
-    pub max_challenge_size: u64,
-    pub anti_ampl_limit: u64,
-    pub state: u8,
-    pub has_scid: bool,
-    pub has_dcid: bool,
-    pub active: bool,
-    pub need_send_challenge: bool,
-    pub verified_peer_address: bool,
-    pub peer_verified_local_address: bool,
-    pub need_send_ping: bool,
-    pub listed: bool,
-}
-
-#[derive(Clone, Copy, PartialEq)]
-#[repr(C)]
-pub struct Paths {
-    pub items: [Path; 8],
-    pub count: usize,
-    pub max_paths: u64,
-    pub anti_ampl_factor: u64,
-    pub is_multipath: bool,
-    pub is_server: bool,
-}
-
-#[derive(PartialEq)]
-#[repr(C)]
-struct Spans {
-    items: [u64; 16],
-    count: usize,
-}
-
-#[derive(PartialEq)]
-#[repr(C)]
-struct PathAnswer {
-    refusal: u8,
-    path: Path,
-}
-
-#[derive(PartialEq)]
-#[repr(C)]
-struct FoundAnswer {
-    refusal: u8,
-    id: u64,
-    path: Path,
-}
-
-#[derive(PartialEq)]
-#[repr(C)]
-struct AddressAnswer {
-    refusal: u8,
-    address: Address,
-}
-
-#[derive(PartialEq)]
-#[repr(C)]
-struct RespondedAnswer {
-    refusal: u8,
-    yes: bool,
-    spans: Spans,
-}
-
-answers!(PathAnswer, FoundAnswer, AddressAnswer, RespondedAnswer);
-
-/// What a call that changes the state gives by value.
-#[repr(C)]
-struct Out<A> {
-    paths: Paths,
-    answer: A,
-}
-
-impl<A> Gives<Paths, A> for Out<A> {
-    fn store(self, paths: &mut Paths) -> A {
-        *paths = self.paths;
-        self.answer
-    }
-}
-
-extern "C" {
-    fn vig_paths_fresh(pair: Pair, size: u64, limit: u64, factor: u64, server: bool) -> Out<Done>;
-    fn vig_paths_insert_path(t: &mut Paths, pair: Pair, size: u64) -> Counted;
-    fn vig_paths_len(t: &Paths) -> Counted;
-    fn vig_paths_get(t: &Paths, id: u64) -> PathAnswer;
-    fn vig_paths_get_path_id(t: &Paths, pair: Pair) -> Numbered;
-    fn vig_paths_get_active(t: &Paths) -> FoundAnswer;
-    fn vig_paths_local_addr(t: &Paths, id: u64) -> AddressAnswer;
-    fn vig_paths_remote_addr(t: &Paths, id: u64) -> AddressAnswer;
-    fn vig_paths_state(t: &Paths, id: u64) -> Counted;
-    fn vig_paths_validated(t: &Paths, id: u64) -> Flagged;
-    fn vig_paths_active(t: &Paths, id: u64) -> Flagged;
-    fn vig_paths_path_chal_initiated(t: &Paths, id: u64) -> Flagged;
-    fn vig_paths_need_send_validation_frames(t: &Paths, id: u64) -> Flagged;
-    fn vig_paths_need_expand_padding_frames(t: &Paths, id: u64) -> Flagged;
-    fn vig_paths_initiate_path_chal(t: &mut Paths, id: u64) -> Done;
-    fn vig_paths_pop_recv_chal(t: &mut Paths, id: u64) -> Numbered;
-    fn vig_paths_on_path_chal_received(t: &mut Paths, id: u64, data: u64) -> Done;
-    fn vig_paths_on_path_chal_sent(t: &mut Paths, id: u64, data: u64, size: u64, sent: Moment) -> Done;
-    fn vig_paths_on_path_resp_received(t: &mut Paths, id: u64, data: u64, now: Moment) -> RespondedAnswer;
-    fn vig_paths_on_path_chal_timeout(t: &mut Paths, now: Moment) -> Done;
-    fn vig_paths_min_path_chal_timer(t: &Paths) -> Timed;
-    fn vig_paths_inc_anti_ampl_limit(t: &mut Paths, id: u64, length: u64) -> Done;
-    fn vig_paths_dec_anti_ampl_limit(t: &mut Paths, id: u64, length: u64) -> Done;
-    fn vig_paths_cmp_anti_ampl_limit(t: &Paths, id: u64, wish: u64) -> Counted;
-    fn vig_paths_mark_ping(t: &mut Paths, has: bool, pair: Pair) -> Done;
-    fn vig_paths_enable_multipath(t: &mut Paths) -> Done;
-    fn vig_paths_set_scid_seq(t: &mut Paths, id: u64, has: bool, seq: u64) -> Done;
-    fn vig_paths_set_dcid_seq(t: &mut Paths, id: u64, has: bool, seq: u64) -> Done;
-    fn vig_paths_set_active(t: &mut Paths, id: u64, on: bool) -> Done;
-    fn vig_paths_mark_verified(t: &mut Paths, id: u64) -> Done;
-}
-
-extern "C" {
-    fn val_paths_fresh(pair: Pair, size: u64, limit: u64, factor: u64, server: bool) -> Out<Done>;
-    fn val_paths_insert_path(s: Paths, pair: Pair, size: u64) -> Out<Counted>;
-    fn val_paths_len(s: Paths) -> Counted;
-    fn val_paths_get(s: Paths, id: u64) -> PathAnswer;
-    fn val_paths_get_path_id(s: Paths, pair: Pair) -> Numbered;
-    fn val_paths_get_active(s: Paths) -> FoundAnswer;
-    fn val_paths_local_addr(s: Paths, id: u64) -> AddressAnswer;
-    fn val_paths_remote_addr(s: Paths, id: u64) -> AddressAnswer;
-    fn val_paths_state(s: Paths, id: u64) -> Counted;
-    fn val_paths_validated(s: Paths, id: u64) -> Flagged;
-    fn val_paths_active(s: Paths, id: u64) -> Flagged;
-    fn val_paths_path_chal_initiated(s: Paths, id: u64) -> Flagged;
-    fn val_paths_need_send_validation_frames(s: Paths, id: u64) -> Flagged;
-    fn val_paths_need_expand_padding_frames(s: Paths, id: u64) -> Flagged;
-    fn val_paths_initiate_path_chal(s: Paths, id: u64) -> Out<Done>;
-    fn val_paths_pop_recv_chal(s: Paths, id: u64) -> Out<Numbered>;
-    fn val_paths_on_path_chal_received(s: Paths, id: u64, data: u64) -> Out<Done>;
-    fn val_paths_on_path_chal_sent(s: Paths, id: u64, data: u64, size: u64, sent: Moment) -> Out<Done>;
-    fn val_paths_on_path_resp_received(s: Paths, id: u64, data: u64, now: Moment) -> Out<RespondedAnswer>;
-    fn val_paths_on_path_chal_timeout(s: Paths, now: Moment) -> Out<Done>;
-    fn val_paths_min_path_chal_timer(s: Paths) -> Timed;
-    fn val_paths_inc_anti_ampl_limit(s: Paths, id: u64, length: u64) -> Out<Done>;
-    fn val_paths_dec_anti_ampl_limit(s: Paths, id: u64, length: u64) -> Out<Done>;
-    fn val_paths_cmp_anti_ampl_limit(s: Paths, id: u64, wish: u64) -> Counted;
-    fn val_paths_mark_ping(s: Paths, has: bool, pair: Pair) -> Out<Done>;
-    fn val_paths_enable_multipath(s: Paths) -> Out<Done>;
-    fn val_paths_set_scid_seq(s: Paths, id: u64, has: bool, seq: u64) -> Out<Done>;
-    fn val_paths_set_dcid_seq(s: Paths, id: u64, has: bool, seq: u64) -> Out<Done>;
-    fn val_paths_set_active(s: Paths, id: u64, on: bool) -> Out<Done>;
-    fn val_paths_mark_verified(s: Paths, id: u64) -> Out<Done>;
-}
+gives!(Paths in paths: PathsDoneOut Done, InsertedOut Counted, PoppedOut Numbered, RespondedOut RespondedAnswer);
 
 const NOWHERE: Pair = Pair { local: NO_ADDRESS, remote: NO_ADDRESS };
 const NO_ADDRESS: Address = Address { ip: [0; 16], flow: 0, scope: 0, port: 0, kind: 0 };
@@ -428,25 +240,25 @@ trait Made {
 
 impl Made for Paths {
     fn fresh() -> Self {
-        let out = unsafe { vig_paths_fresh(Pair::of(0), SIZE, LIMIT, FACTOR, true) };
+        let out = vig_paths_fresh(Pair::of(0), SIZE, LIMIT, FACTOR, true);
         crate::accepted(&out.answer);
         out.paths
     }
 
     fn insert(&mut self, pair: Pair) {
-        crate::accepted(&unsafe { vig_paths_insert_path(self, pair, SIZE) });
+        crate::accepted(&vig_paths_insert_path(self, pair, SIZE));
     }
 
     fn credited(&mut self, length: u64) {
-        crate::accepted(&unsafe { vig_paths_inc_anti_ampl_limit(self, 1, length) });
+        crate::accepted(&vig_paths_inc_anti_ampl_limit(self, 1, length));
     }
 
     fn sent(&mut self, data: u64) {
-        crate::accepted(&unsafe { vig_paths_on_path_chal_sent(self, 1, data, SIZE, at(0)) });
+        crate::accepted(&vig_paths_on_path_chal_sent(self, 1, data, SIZE, at(0)));
     }
 
     fn received(&mut self, data: u64) {
-        crate::accepted(&unsafe { vig_paths_on_path_chal_received(self, 1, data) });
+        crate::accepted(&vig_paths_on_path_chal_received(self, 1, data));
     }
 }
 
@@ -552,8 +364,8 @@ fn rows(count: u64) -> Vec<Row> {
         name: "fresh",
         test: |_: &Paths, (pair, limit): &(Pair, u64)| (1..=8).contains(limit) && pair.formed(),
         tuned: |_: &Paths, (pair, limit): &(Pair, u64)| (1..=8).contains(limit) & pair.formed(),
-        lent: |s: &mut Paths, (pair, limit)| unsafe { vig_paths_fresh(pair, SIZE, limit, FACTOR, true) }.store(s),
-        by_value: |_: &Paths, (pair, limit)| unsafe { val_paths_fresh(pair, SIZE, limit, FACTOR, true) },
+        lent: |s: &mut Paths, (pair, limit)| vig_paths_fresh(pair, SIZE, limit, FACTOR, true).store(s),
+        by_value: |_: &Paths, (pair, limit)| val_paths_fresh(pair, SIZE, limit, FACTOR, true),
         // What stood there before is not dropped.
         rust: |m: &mut Rust, (pair, limit): ((SocketAddr, SocketAddr), usize)| unsafe {
             std::ptr::write(m, Rust::new(path(pair, true, SIZE), limit, FACTOR as usize, true))
@@ -569,225 +381,225 @@ fn rows(count: u64) -> Vec<Row> {
         "insert_path",
         ((new, SIZE), (new.rust(), SIZE)),
         |(pair, _)| pair.formed(),
-        |s, (pair, size)| unsafe { vig_paths_insert_path(s, pair, size) },
-        |s, (pair, size)| unsafe { val_paths_insert_path(*s, pair, size) },
+        |s, (pair, size)| vig_paths_insert_path(s, pair, size),
+        |s, (pair, size)| val_paths_insert_path(*s, pair, size),
         |m, (pair, size)| m.insert_path(path(pair, false, size)),
     );
-    r.add("len", both(0), any, |s, _| unsafe { vig_paths_len(s) }, |s, _| unsafe { val_paths_len(*s) }, |m, _| m.len());
+    r.add("len", both(0), any, |s, _| vig_paths_len(s), |s, _| val_paths_len(*s), |m, _| m.len());
     r.add(
         "get",
         both(1),
         any,
-        |s, id| unsafe { vig_paths_get(s, id) },
-        |s, id| unsafe { val_paths_get(*s, id) },
+        |s, id| vig_paths_get(s, id),
+        |s, id| val_paths_get(*s, id),
         |m, id| _ = black_box(m.get(id as usize)),
     );
     r.add(
         "get_path_id",
         (last, last.rust()),
         Pair::formed,
-        |s, pair| unsafe { vig_paths_get_path_id(s, pair) },
-        |s, pair| unsafe { val_paths_get_path_id(*s, pair) },
+        |s, pair| vig_paths_get_path_id(s, pair),
+        |s, pair| val_paths_get_path_id(*s, pair),
         |m, pair| m.get_path_id(&pair),
     );
     r.add(
         "get_active",
         both(0),
         any,
-        |s, _| unsafe { vig_paths_get_active(s) },
-        |s, _| unsafe { val_paths_get_active(*s) },
+        |s, _| vig_paths_get_active(s),
+        |s, _| val_paths_get_active(*s),
         |m, _| _ = black_box(m.get_active_with_path_id()),
     );
     r.add(
         "local_addr",
         both(1),
         any,
-        |s, id| unsafe { vig_paths_local_addr(s, id) },
-        |s, id| unsafe { val_paths_local_addr(*s, id) },
+        |s, id| vig_paths_local_addr(s, id),
+        |s, id| val_paths_local_addr(*s, id),
         |m, id| m.get(id as usize).map(|path| path.local_addr()),
     );
     r.add(
         "remote_addr",
         both(1),
         any,
-        |s, id| unsafe { vig_paths_remote_addr(s, id) },
-        |s, id| unsafe { val_paths_remote_addr(*s, id) },
+        |s, id| vig_paths_remote_addr(s, id),
+        |s, id| val_paths_remote_addr(*s, id),
         |m, id| m.get(id as usize).map(|path| path.remote_addr()),
     );
     r.add(
         "state",
         both(1),
         any,
-        |s, id| unsafe { vig_paths_state(s, id) },
-        |s, id| unsafe { val_paths_state(*s, id) },
+        |s, id| vig_paths_state(s, id),
+        |s, id| val_paths_state(*s, id),
         |m, id| m.get(id as usize).map(|path| path.state()),
     );
     r.add(
         "validated",
         both(1),
         any,
-        |s, id| unsafe { vig_paths_validated(s, id) },
-        |s, id| unsafe { val_paths_validated(*s, id) },
+        |s, id| vig_paths_validated(s, id),
+        |s, id| val_paths_validated(*s, id),
         |m, id| m.get(id as usize).map(|path| path.validated()),
     );
     r.add(
         "active",
         both(1),
         any,
-        |s, id| unsafe { vig_paths_active(s, id) },
-        |s, id| unsafe { val_paths_active(*s, id) },
+        |s, id| vig_paths_active(s, id),
+        |s, id| val_paths_active(*s, id),
         |m, id| m.get(id as usize).map(|path| path.active()),
     );
     r.add(
         "path_chal_initiated",
         both(1),
         any,
-        |s, id| unsafe { vig_paths_path_chal_initiated(s, id) },
-        |s, id| unsafe { val_paths_path_chal_initiated(*s, id) },
+        |s, id| vig_paths_path_chal_initiated(s, id),
+        |s, id| val_paths_path_chal_initiated(*s, id),
         |m, id| m.get(id as usize).map(|path| path.path_chal_initiated()),
     );
     r.add(
         "need_send_validation_frames",
         both(1),
         any,
-        |s, id| unsafe { vig_paths_need_send_validation_frames(s, id) },
-        |s, id| unsafe { val_paths_need_send_validation_frames(*s, id) },
+        |s, id| vig_paths_need_send_validation_frames(s, id),
+        |s, id| val_paths_need_send_validation_frames(*s, id),
         |m, id| m.get(id as usize).map(|path| path.need_send_validation_frames(m.server())),
     );
     r.add(
         "need_expand_padding_frames",
         both(1),
         any,
-        |s, id| unsafe { vig_paths_need_expand_padding_frames(s, id) },
-        |s, id| unsafe { val_paths_need_expand_padding_frames(*s, id) },
+        |s, id| vig_paths_need_expand_padding_frames(s, id),
+        |s, id| val_paths_need_expand_padding_frames(*s, id),
         |m, id| m.get(id as usize).map(|path| path.need_expand_padding_frames(m.server())),
     );
     r.add(
         "initiate_path_chal",
         both(1),
         any,
-        |s, id| unsafe { vig_paths_initiate_path_chal(s, id) },
-        |s, id| unsafe { val_paths_initiate_path_chal(*s, id) },
+        |s, id| vig_paths_initiate_path_chal(s, id),
+        |s, id| val_paths_initiate_path_chal(*s, id),
         |m, id| m.get_mut(id as usize).map(|path| path.initiate_path_chal()),
     );
     r.add(
         "pop_recv_chal",
         both(1),
         any,
-        |s, id| unsafe { vig_paths_pop_recv_chal(s, id) },
-        |s, id| unsafe { val_paths_pop_recv_chal(*s, id) },
+        |s, id| vig_paths_pop_recv_chal(s, id),
+        |s, id| val_paths_pop_recv_chal(*s, id),
         |m, id| m.get_mut(id as usize).map(|path| path.pop_recv_chal()),
     );
     r.add(
         "on_path_chal_received",
         ((1, 9), (1, bytes(9))),
         any,
-        |s, (id, data)| unsafe { vig_paths_on_path_chal_received(s, id, data) },
-        |s, (id, data)| unsafe { val_paths_on_path_chal_received(*s, id, data) },
+        |s, (id, data)| vig_paths_on_path_chal_received(s, id, data),
+        |s, (id, data)| val_paths_on_path_chal_received(*s, id, data),
         |m, (id, data)| m.on_path_chal_received(id, data),
     );
     r.add(
         "on_path_chal_sent",
         ((1, 9, 1200, at(10)), (1, bytes(9), 1200, crate::instant(10))),
         |(.., sent)| sent.formed(),
-        |s, (id, data, size, sent)| unsafe { vig_paths_on_path_chal_sent(s, id, data, size, sent) },
-        |s, (id, data, size, sent)| unsafe { val_paths_on_path_chal_sent(*s, id, data, size, sent) },
+        |s, (id, data, size, sent)| vig_paths_on_path_chal_sent(s, id, data, size, sent),
+        |s, (id, data, size, sent)| val_paths_on_path_chal_sent(*s, id, data, size, sent),
         |m, (id, data, size, sent)| m.on_path_chal_sent(id, data, size, sent),
     );
     r.add(
         "on_path_resp_received",
         ((1, SENT, at(0)), (1, bytes(SENT))),
         |(.., now)| now.formed(),
-        |s, (id, data, now)| unsafe { vig_paths_on_path_resp_received(s, id, data, now) },
-        |s, (id, data, now)| unsafe { val_paths_on_path_resp_received(*s, id, data, now) },
+        |s, (id, data, now)| vig_paths_on_path_resp_received(s, id, data, now),
+        |s, (id, data, now)| val_paths_on_path_resp_received(*s, id, data, now),
         |m, (id, data)| m.on_path_resp_received(id, data),
     );
     r.add(
         "on_path_chal_timeout",
         (at(DUE), crate::instant(DUE)),
         |now| now.formed(),
-        |s, now| unsafe { vig_paths_on_path_chal_timeout(s, now) },
-        |s, now| unsafe { val_paths_on_path_chal_timeout(*s, now) },
+        |s, now| vig_paths_on_path_chal_timeout(s, now),
+        |s, now| val_paths_on_path_chal_timeout(*s, now),
         |m, now| m.on_path_chal_timeout(now),
     );
     r.add(
         "min_path_chal_timer",
         both(0),
         any,
-        |s, _| unsafe { vig_paths_min_path_chal_timer(s) },
-        |s, _| unsafe { val_paths_min_path_chal_timer(*s) },
+        |s, _| vig_paths_min_path_chal_timer(s),
+        |s, _| val_paths_min_path_chal_timer(*s),
         |m, _| m.min_path_chal_timer(),
     );
     r.add(
         "inc_anti_ampl_limit",
         both(1),
         any,
-        |s, id| unsafe { vig_paths_inc_anti_ampl_limit(s, id, 100) },
-        |s, id| unsafe { val_paths_inc_anti_ampl_limit(*s, id, 100) },
+        |s, id| vig_paths_inc_anti_ampl_limit(s, id, 100),
+        |s, id| val_paths_inc_anti_ampl_limit(*s, id, 100),
         |m, id| m.inc_anti_ampl_limit(id as usize, 100),
     );
     r.add(
         "dec_anti_ampl_limit",
         both(1),
         any,
-        |s, id| unsafe { vig_paths_dec_anti_ampl_limit(s, id, 100) },
-        |s, id| unsafe { val_paths_dec_anti_ampl_limit(*s, id, 100) },
+        |s, id| vig_paths_dec_anti_ampl_limit(s, id, 100),
+        |s, id| val_paths_dec_anti_ampl_limit(*s, id, 100),
         |m, id| m.dec_anti_ampl_limit(id as usize, 100),
     );
     r.add(
         "cmp_anti_ampl_limit",
         both(1),
         any,
-        |s, id| unsafe { vig_paths_cmp_anti_ampl_limit(s, id, 5000) },
-        |s, id| unsafe { val_paths_cmp_anti_ampl_limit(*s, id, 5000) },
+        |s, id| vig_paths_cmp_anti_ampl_limit(s, id, 5000),
+        |s, id| val_paths_cmp_anti_ampl_limit(*s, id, 5000),
         |m, id| m.cmp_anti_ampl_limit(id as usize, 5000),
     );
     r.add(
         "mark_ping",
         ((true, last), Some(last.rust())),
         |(has, pair)| if *has { pair.formed() } else { *pair == NOWHERE },
-        |s, (has, pair)| unsafe { vig_paths_mark_ping(s, has, pair) },
-        |s, (has, pair)| unsafe { val_paths_mark_ping(*s, has, pair) },
+        |s, (has, pair)| vig_paths_mark_ping(s, has, pair),
+        |s, (has, pair)| val_paths_mark_ping(*s, has, pair),
         |m, pair| m.mark_ping(pair.map(|(local, remote)| FourTuple { local, remote })),
     );
     r.add(
         "enable_multipath",
         both(0),
         any,
-        |s, _| unsafe { vig_paths_enable_multipath(s) },
-        |s, _| unsafe { val_paths_enable_multipath(*s) },
+        |s, _| vig_paths_enable_multipath(s),
+        |s, _| val_paths_enable_multipath(*s),
         |m, _| m.enable_multipath(),
     );
     r.add(
         "set_scid_seq",
         ((1, true, 7), (1, Some(7))),
         sequence,
-        |s, (id, has, seq)| unsafe { vig_paths_set_scid_seq(s, id, has, seq) },
-        |s, (id, has, seq)| unsafe { val_paths_set_scid_seq(*s, id, has, seq) },
+        |s, (id, has, seq)| vig_paths_set_scid_seq(s, id, has, seq),
+        |s, (id, has, seq)| val_paths_set_scid_seq(*s, id, has, seq),
         |m, (id, seq)| m.get_mut(id).map(|path| path.scid_seq = seq),
     );
     r.add(
         "set_dcid_seq",
         ((1, true, 7), (1, Some(7))),
         sequence,
-        |s, (id, has, seq)| unsafe { vig_paths_set_dcid_seq(s, id, has, seq) },
-        |s, (id, has, seq)| unsafe { val_paths_set_dcid_seq(*s, id, has, seq) },
+        |s, (id, has, seq)| vig_paths_set_dcid_seq(s, id, has, seq),
+        |s, (id, has, seq)| val_paths_set_dcid_seq(*s, id, has, seq),
         |m, (id, seq)| m.get_mut(id).map(|path| path.dcid_seq = seq),
     );
     r.add(
         "set_active",
         ((1, true), (1, true)),
         any,
-        |s, (id, on)| unsafe { vig_paths_set_active(s, id, on) },
-        |s, (id, on)| unsafe { val_paths_set_active(*s, id, on) },
+        |s, (id, on)| vig_paths_set_active(s, id, on),
+        |s, (id, on)| val_paths_set_active(*s, id, on),
         |m, (id, on)| m.get_mut(id).map(|path| path.set_active(on)),
     );
     r.add(
         "mark_verified",
         both(1),
         any,
-        |s, id| unsafe { vig_paths_mark_verified(s, id) },
-        |s, id| unsafe { val_paths_mark_verified(*s, id) },
+        |s, id| vig_paths_mark_verified(s, id),
+        |s, id| val_paths_mark_verified(*s, id),
         |m, id| m.get_mut(id as usize).map(|path| path.verified_peer_address = true),
     );
     r.rows

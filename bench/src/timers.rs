@@ -3,40 +3,9 @@
 use std::mem::size_of;
 
 use super::timer::{Timer, TimerTable as Rust};
-use super::values::{Deadline, Done, Flagged, Moment, Timed};
-use crate::{instant, Answer, Area, Call, Given, Gives, Instant, Row};
-
-#[derive(Clone, Copy, PartialEq)]
-#[repr(C)]
-struct TimerTable {
-    expires: [Deadline; 9],
-}
-
-#[repr(C)]
-struct TimersOut {
-    timers: TimerTable,
-    answer: Done,
-}
-
-extern "C" {
-    fn vig_timers_fresh() -> TimerTable;
-    fn vig_timers_set(t: &mut TimerTable, timer: u64, at: Moment) -> Done;
-    fn vig_timers_get(t: &TimerTable, timer: u64) -> Timed;
-    fn vig_timers_stop(t: &mut TimerTable, timer: u64) -> Done;
-    fn vig_timers_next_timeout(t: &TimerTable) -> Timed;
-    fn vig_timers_is_expired(t: &TimerTable, timer: u64, now: Moment) -> Flagged;
-    fn vig_timers_clear(t: &mut TimerTable) -> Done;
-}
-
-extern "C" {
-    fn val_timers_fresh() -> TimerTable;
-    fn val_timers_set(t: TimerTable, timer: u64, at: Moment) -> TimersOut;
-    fn val_timers_get(t: TimerTable, timer: u64) -> Timed;
-    fn val_timers_stop(t: TimerTable, timer: u64) -> TimersOut;
-    fn val_timers_next_timeout(t: TimerTable) -> Timed;
-    fn val_timers_is_expired(t: TimerTable, timer: u64, now: Moment) -> Flagged;
-    fn val_timers_clear(t: TimerTable) -> TimersOut;
-}
+use crate::by_value::*;
+use crate::ffi::*;
+use crate::{gives, instant, Answer, Area, Call, Given, Gives, Instant, Row};
 
 impl TimerTable {
     fn formed(&self) -> bool {
@@ -49,12 +18,7 @@ impl TimerTable {
     }
 }
 
-impl Gives<TimerTable, Done> for TimersOut {
-    fn store(self, table: &mut TimerTable) -> Done {
-        *table = self.timers;
-        self.answer
-    }
-}
+gives!(TimerTable in timers: TimersOut Done);
 
 /// A fresh table.
 impl Gives<TimerTable, ()> for TimerTable {
@@ -83,9 +47,9 @@ fn set(full: bool) -> Vec<(Timer, u64)> {
 }
 
 fn ours(full: bool) -> TimerTable {
-    let mut table = unsafe { vig_timers_fresh() };
+    let mut table = vig_timers_fresh();
     for (timer, us) in set(full) {
-        unsafe { vig_timers_set(&mut table, timer as u64, Moment { us }) };
+        vig_timers_set(&mut table, timer as u64, Moment { us });
     }
     table
 }
@@ -141,8 +105,8 @@ fn rows(full: bool) -> Vec<Row> {
         name: "fresh",
         test: |_: &TimerTable, _: &()| true,
         tuned: |_: &TimerTable, _: &()| true,
-        lent: |t: &mut TimerTable, _| *t = unsafe { vig_timers_fresh() },
-        by_value: |_: &TimerTable, _| unsafe { val_timers_fresh() },
+        lent: |t: &mut TimerTable, _| *t = vig_timers_fresh(),
+        by_value: |_: &TimerTable, _| val_timers_fresh(),
         rust: |t: &mut Rust, _: ()| *t = Rust::default(),
     };
     vec![
@@ -151,49 +115,42 @@ fn rows(full: bool) -> Vec<Row> {
             full,
             "set",
             |timer, at| timer < 9 && at.formed(),
-            |t, (timer, at)| unsafe { vig_timers_set(t, timer, at) },
-            |t, (timer, at)| unsafe { val_timers_set(*t, timer, at) },
+            |t, (timer, at)| vig_timers_set(t, timer, at),
+            |t, (timer, at)| val_timers_set(*t, timer, at),
             |t, (timer, at)| t.set(timer, at),
         ),
         row(
             full,
             "stop",
             |timer, _| timer < 9,
-            |t, (timer, _)| unsafe { vig_timers_stop(t, timer) },
-            |t, (timer, _)| unsafe { val_timers_stop(*t, timer) },
+            |t, (timer, _)| vig_timers_stop(t, timer),
+            |t, (timer, _)| val_timers_stop(*t, timer),
             |t, (timer, _)| t.stop(timer),
         ),
         row(
             full,
             "get",
             |timer, _| timer < 9,
-            |t, (timer, _)| unsafe { vig_timers_get(t, timer) },
-            |t, (timer, _)| unsafe { val_timers_get(*t, timer) },
+            |t, (timer, _)| vig_timers_get(t, timer),
+            |t, (timer, _)| val_timers_get(*t, timer),
             |t, (timer, _)| t.get(timer),
         ),
         row(
             full,
             "next_timeout",
             |_, _| true,
-            |t, _| unsafe { vig_timers_next_timeout(t) },
-            |t, _| unsafe { val_timers_next_timeout(*t) },
+            |t, _| vig_timers_next_timeout(t),
+            |t, _| val_timers_next_timeout(*t),
             |t, _| t.next_timeout(),
         ),
         row(
             full,
             "is_expired",
             |timer, now| timer < 9 && now.formed(),
-            |t, (timer, now)| unsafe { vig_timers_is_expired(t, timer, now) },
-            |t, (timer, now)| unsafe { val_timers_is_expired(*t, timer, now) },
+            |t, (timer, now)| vig_timers_is_expired(t, timer, now),
+            |t, (timer, now)| val_timers_is_expired(*t, timer, now),
             |t, (timer, now)| t.is_expired(timer, now),
         ),
-        row(
-            full,
-            "clear",
-            |_, _| true,
-            |t, _| unsafe { vig_timers_clear(t) },
-            |t, _| unsafe { val_timers_clear(*t) },
-            |t, _| *t = Rust::default(),
-        ),
+        row(full, "clear", |_, _| true, |t, _| vig_timers_clear(t), |t, _| val_timers_clear(*t), |t, _| *t = Rust::default()),
     ]
 }

@@ -1,78 +1,11 @@
-//! The values and answers of ../crates/values, as the archives lay them out; and the rows of their call.
+//! The plain answers, the forms of the values, and the rows of their call.
 
+use crate::by_value::val_wire_code;
 use crate::error::Error;
+use crate::ffi::*;
 use crate::{Answer, Area, Call, Given};
 
-/// Microseconds, at most MAX_MOMENT.
-#[derive(Clone, Copy, PartialEq)]
-#[repr(C)]
-pub struct Moment {
-    pub us: u64,
-}
-
 pub const MAX_MOMENT: u64 = (1 << 63) - 1;
-
-#[derive(Clone, Copy, PartialEq)]
-#[repr(C)]
-pub struct Deadline {
-    pub at: Moment,
-    pub set: bool,
-}
-
-#[derive(Clone, Copy, PartialEq)]
-#[repr(C)]
-pub struct ConnectionId {
-    pub bytes: [u8; 20],
-    pub len: u8,
-}
-
-#[derive(Clone, Copy, PartialEq)]
-#[repr(C)]
-pub struct Token {
-    pub bytes: [u8; 16],
-    pub present: bool,
-}
-
-#[derive(Clone, Copy)]
-#[repr(C)]
-pub struct ResetToken {
-    pub bytes: [u8; 16],
-}
-
-#[derive(PartialEq)]
-#[repr(C)]
-pub struct Done {
-    pub refusal: u8,
-}
-
-#[derive(PartialEq)]
-#[repr(C)]
-pub struct Flagged {
-    pub refusal: u8,
-    pub flag: bool,
-}
-
-#[derive(PartialEq)]
-#[repr(C)]
-pub struct Counted {
-    pub refusal: u8,
-    pub number: u64,
-}
-
-#[derive(PartialEq)]
-#[repr(C)]
-pub struct Numbered {
-    pub refusal: u8,
-    pub present: bool,
-    pub number: u64,
-}
-
-#[derive(PartialEq)]
-#[repr(C)]
-pub struct Timed {
-    pub refusal: u8,
-    pub deadline: Deadline,
-}
 
 /// Answers that begin with the refusal's number.
 #[macro_export]
@@ -129,16 +62,6 @@ impl Token {
     }
 }
 
-#[link(name = "vignorasc", kind = "static")]
-extern "C" {
-    fn vig_wire_code(number: u64) -> u64;
-}
-
-#[link(name = "by_value", kind = "static")]
-extern "C" {
-    fn val_wire_code(number: u64) -> u64;
-}
-
 pub fn area() -> Area {
     let nothing = Call {
         name: "(the loop alone)",
@@ -152,8 +75,8 @@ pub fn area() -> Area {
         name: "wire_code",
         test: |_: &(), _: &u64| true,
         tuned: |_: &(), _: &u64| true,
-        lent: |_: &mut (), number| unsafe { vig_wire_code(number) },
-        by_value: |_: &(), number| unsafe { val_wire_code(number) },
+        lent: |_: &mut (), number| vig_wire_code(number),
+        by_value: |_: &(), number| val_wire_code(number),
         rust: |errors: &mut [Error; 1], _: ()| errors[0].to_wire(),
     };
     let rows = vec![

@@ -1,4 +1,4 @@
-//! The library's structs and functions, as its own definitions have them. tests/host holds this file to them: names, types, order, sizes, offsets, signatures.
+//! The library's structs and functions, as its own definitions have them: tools/face writes both blocks below from those, with the comments in them kept.
 //! Two answers have the same name in two crates and carry the crate's here: IdsDoneOut and PathsDoneOut, IdsFoundAnswer and PathsFoundAnswer.
 
 /// Declares `#[repr(C)]` structs and, for the tests, a text of their layout, so that no struct can be left out of it; for tests/host/fuzz, which has this file as
@@ -262,7 +262,7 @@ structs! {
     }
 }
 
-// SAFETY: the declarations are the library's own, to which tests/host holds them, so every call is safe: a reference is a pointer to a whole state, which lives
+// SAFETY: the declarations are the library's own, from which tools/face writes them, so every call is safe: a reference is a pointer to a whole state, which lives
 // through the call and is shared or exclusive as the call takes it; every bool is a Rust bool; the library asks nothing else, keeps no pointer and has no
 // globals.
 #[allow(unsafe_code)]
@@ -311,33 +311,37 @@ unsafe extern "C" {
     pub safe fn vig_ids_next_dcid_to_retire(t: &Ids) -> Numbered;
     pub safe fn vig_ids_create_new_connection_id_frame(t: &Ids, seq: u64) -> FrameAnswer;
     pub safe fn vig_ids_need_send_cid_control_frames(t: &Ids) -> Flagged;
-    pub safe fn vig_ids_zero_length_scid(t: &Ids) -> Flagged;
     pub safe fn vig_ids_zero_length_dcid(t: &Ids) -> Flagged;
-    pub safe fn vig_ids_scid_count(t: &Ids) -> Counted;
-    pub safe fn vig_ids_scid_at(t: &Ids, place: u64) -> ItemAnswer;
+    pub safe fn vig_ids_zero_length_scid(t: &Ids) -> Flagged;
     pub safe fn vig_ids_dcid_count(t: &Ids) -> Counted;
     pub safe fn vig_ids_dcid_at(t: &Ids, place: u64) -> ItemAnswer;
+    pub safe fn vig_ids_scid_count(t: &Ids) -> Counted;
+    pub safe fn vig_ids_scid_at(t: &Ids, place: u64) -> ItemAnswer;
 
+    pub safe fn vig_paths_local_addr(t: &Paths, id: u64) -> AddressAnswer;
+    pub safe fn vig_paths_remote_addr(t: &Paths, id: u64) -> AddressAnswer;
+    pub safe fn vig_paths_pop_recv_chal(t: &mut Paths, id: u64) -> Numbered;
+    pub safe fn vig_paths_path_chal_initiated(t: &Paths, id: u64) -> Flagged;
+    pub safe fn vig_paths_initiate_path_chal(t: &mut Paths, id: u64) -> Done;
+    pub safe fn vig_paths_need_send_validation_frames(t: &Paths, id: u64) -> Flagged;
+    pub safe fn vig_paths_need_expand_padding_frames(t: &Paths, id: u64) -> Flagged;
+    pub safe fn vig_paths_validated(t: &Paths, id: u64) -> Flagged;
+    pub safe fn vig_paths_active(t: &Paths, id: u64) -> Flagged;
+    pub safe fn vig_paths_set_active(t: &mut Paths, id: u64, on: bool) -> Done;
+    pub safe fn vig_paths_state(t: &Paths, id: u64) -> Counted;
+    pub safe fn vig_paths_set_scid_seq(t: &mut Paths, id: u64, has: bool, seq: u64) -> Done;
+    pub safe fn vig_paths_set_dcid_seq(t: &mut Paths, id: u64, has: bool, seq: u64) -> Done;
+    pub safe fn vig_paths_mark_verified(t: &mut Paths, id: u64) -> Done;
     pub safe fn vig_paths_fresh(pair: FourTuple, max_datagram_size: u64, limit: u64, factor: u64, server: bool)
         -> PathsDoneOut;
-    pub safe fn vig_paths_insert_path(t: &mut Paths, pair: FourTuple, max_datagram_size: u64) -> Counted;
-    pub safe fn vig_paths_len(t: &Paths) -> Counted;
     pub safe fn vig_paths_get(t: &Paths, id: u64) -> PathAnswer;
     pub safe fn vig_paths_get_path_id(t: &Paths, pair: FourTuple) -> Numbered;
     pub safe fn vig_paths_get_active(t: &Paths) -> PathsFoundAnswer;
-    pub safe fn vig_paths_local_addr(t: &Paths, id: u64) -> AddressAnswer;
-    pub safe fn vig_paths_remote_addr(t: &Paths, id: u64) -> AddressAnswer;
-    pub safe fn vig_paths_state(t: &Paths, id: u64) -> Counted;
-    pub safe fn vig_paths_validated(t: &Paths, id: u64) -> Flagged;
-    pub safe fn vig_paths_active(t: &Paths, id: u64) -> Flagged;
-    pub safe fn vig_paths_path_chal_initiated(t: &Paths, id: u64) -> Flagged;
-    pub safe fn vig_paths_need_send_validation_frames(t: &Paths, id: u64) -> Flagged;
-    pub safe fn vig_paths_need_expand_padding_frames(t: &Paths, id: u64) -> Flagged;
-    pub safe fn vig_paths_initiate_path_chal(t: &mut Paths, id: u64) -> Done;
-    pub safe fn vig_paths_pop_recv_chal(t: &mut Paths, id: u64) -> Numbered;
+    pub safe fn vig_paths_insert_path(t: &mut Paths, pair: FourTuple, max_datagram_size: u64) -> Counted;
+    pub safe fn vig_paths_len(t: &Paths) -> Counted;
     pub safe fn vig_paths_on_path_chal_received(t: &mut Paths, id: u64, data: u64) -> Done;
-    pub safe fn vig_paths_on_path_chal_sent(t: &mut Paths, id: u64, data: u64, size: u64, sent: Moment) -> Done;
     pub safe fn vig_paths_on_path_resp_received(t: &mut Paths, id: u64, data: u64, moment: Moment) -> RespondedAnswer;
+    pub safe fn vig_paths_on_path_chal_sent(t: &mut Paths, id: u64, data: u64, size: u64, sent: Moment) -> Done;
     pub safe fn vig_paths_on_path_chal_timeout(t: &mut Paths, moment: Moment) -> Done;
     pub safe fn vig_paths_min_path_chal_timer(t: &Paths) -> Timed;
     pub safe fn vig_paths_inc_anti_ampl_limit(t: &mut Paths, id: u64, length: u64) -> Done;
@@ -345,15 +349,11 @@ unsafe extern "C" {
     pub safe fn vig_paths_cmp_anti_ampl_limit(t: &Paths, id: u64, wish: u64) -> Counted;
     pub safe fn vig_paths_mark_ping(t: &mut Paths, has: bool, pair: FourTuple) -> Done;
     pub safe fn vig_paths_enable_multipath(t: &mut Paths) -> Done;
-    pub safe fn vig_paths_set_scid_seq(t: &mut Paths, id: u64, has: bool, seq: u64) -> Done;
-    pub safe fn vig_paths_set_dcid_seq(t: &mut Paths, id: u64, has: bool, seq: u64) -> Done;
-    pub safe fn vig_paths_set_active(t: &mut Paths, id: u64, on: bool) -> Done;
-    pub safe fn vig_paths_mark_verified(t: &mut Paths, id: u64) -> Done;
 }
 
 #[cfg(test)]
 mod tests {
-    /// layout.txt is written from the library's own definitions (tests/host/layout --write).
+    /// layout.txt is written from the library's own definitions (tools/face).
     #[test]
     fn layout_is_the_librarys() {
         assert_eq!(super::layout(), include_str!("../layout.txt"));

@@ -1,4 +1,4 @@
-/* A host in C: lends its timers, its IDs and its paths to the library, and prints what it is told. The sizes are checked by `layout`, the answers here by
+/* A host in C: lends its timers, its IDs and its paths to the library, and prints what it is told. The sizes are checked by tools/face, the answers here by
  * hand from docs/RULES.md. */
 #include <stdio.h>
 #include <stdlib.h>
