@@ -2,7 +2,7 @@
 
 use crate::arguments::{Arguments, NO_HINTS};
 use crate::lent::{Call, Lent, Outcome, State};
-use crate::parts::Map;
+use crate::parts::{zeros, Map};
 use crate::random::Random;
 
 /// How often a call was made, and how often it answered 1.
@@ -75,11 +75,9 @@ impl<S: State> Area<S> {
         let (refusal, state) = S::fresh(arguments);
         let lent = Lent::new(state);
         self.fresh.count(refusal);
-        // SAFETY: zero is a number and a bool.
-        let zeros: S = unsafe { std::mem::zeroed() };
         match refusal {
             0 if arguments.formed && lent.broken().is_empty() => Ok(lent),
-            1 if !arguments.formed && state == zeros => Ok(lent),
+            1 if !arguments.formed && state == zeros() => Ok(lent),
             _ => Err(format!("{}: answered {refusal}; arguments in form: {}", S::FRESH, arguments.formed)),
         }
     }

@@ -2,6 +2,7 @@
 
 use crate::ffi::{Address, ConnectionId, FourTuple, Moment, ResetToken, Token};
 use crate::form;
+use crate::parts::zeros;
 use crate::random::Random;
 
 /// Values that stand in the state, so that a call finds what it looks for.
@@ -15,9 +16,9 @@ pub struct Hints {
     pub moment: Moment,
 }
 
-const NO_ADDRESS: Address = Address { ip: [0; 16], flow: 0, scope: 0, port: 0, kind: 0 };
-pub const NO_PAIR: FourTuple = FourTuple { local: NO_ADDRESS, remote: NO_ADDRESS };
-pub const NO_CID: ConnectionId = ConnectionId { bytes: [0; 20], len: 0 };
+const NO_ADDRESS: Address = zeros();
+pub const NO_PAIR: FourTuple = zeros();
+pub const NO_CID: ConnectionId = zeros();
 pub const NO_HINTS: Hints = Hints { id: 0, number: 0, cid: NO_CID, pair: FIRST_PAIR, moment: Moment { us: 0 } };
 const FIRST: Address = Address { kind: 4, ..NO_ADDRESS };
 const FIRST_PAIR: FourTuple = FourTuple { local: FIRST, remote: FIRST };

@@ -1,12 +1,13 @@
-use crate::arguments::{damage_cid, Arguments, Hints, NO_CID, NO_HINTS};
+use crate::arguments::{damage_cid, Arguments, Hints, NO_HINTS};
 use crate::calls;
 use crate::ffi::{self, Ids, Item, Queue, Table, Token};
 use crate::form::{self, Conjunct};
 use crate::lent::{Call, State};
+use crate::parts::zeros;
 use crate::random::Random;
 
-const NO_TOKEN: Token = Token { bytes: [0; 16], present: false };
-const NO_ITEM: Item = Item { seq: 0, path: 0, cid: NO_CID, token: NO_TOKEN, has_path: false };
+const NO_TOKEN: Token = zeros();
+const NO_ITEM: Item = zeros();
 
 impl State for Ids {
     const FRESH: &'static str = "vig_ids_fresh";

@@ -3,7 +3,7 @@
 use crate::arguments::{Arguments, Hints};
 use crate::ffi;
 use crate::form::Conjunct;
-use crate::parts::{Map, Parts};
+use crate::parts::{zeros, Map, Parts};
 use crate::random::Random;
 use std::marker::PhantomData;
 use std::mem::size_of;
@@ -64,9 +64,7 @@ macro_rules! answers {
     ($($name:ident)*) => {
         $(impl Answer for ffi::$name {
             fn outcome(self) -> Outcome {
-                // SAFETY: numbers and bools, of which zero is one.
-                let mut refused: ffi::$name = unsafe { std::mem::zeroed() };
-                refused.refusal = self.refusal;
+                let refused = ffi::$name { refusal: self.refusal, ..zeros() };
                 Outcome { refusal: self.refusal, quiet: self.refusal == 0 || self == refused }
             }
         })*

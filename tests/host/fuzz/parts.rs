@@ -8,6 +8,12 @@ pub trait Parts {
     fn note(at: usize, map: &mut Map);
 }
 
+/// All zeros: of a struct every field.
+pub const fn zeros<T: Parts>() -> T {
+    // SAFETY: zero is a number and a bool, and what has parts is made of these alone.
+    unsafe { std::mem::zeroed() }
+}
+
 pub struct Map {
     pub flags: Vec<usize>,
     pub padding: Vec<usize>,

@@ -1,31 +1,12 @@
-use crate::arguments::{damage_pair, Arguments, Hints, NO_HINTS, NO_PAIR};
+use crate::arguments::{damage_pair, Arguments, Hints, NO_HINTS};
 use crate::calls;
-use crate::ffi::{self, Challenge, Moment, Path, Paths, Received, Sent};
+use crate::ffi::{self, Path, Paths, Sent};
 use crate::form::{self, Conjunct};
 use crate::lent::{Call, State};
+use crate::parts::zeros;
 use crate::random::Random;
 
-const NO_CHALLENGE: Challenge = Challenge { data: 0, size: 0, sent: Moment { us: 0 }, deadline: Moment { us: 0 } };
-const NO_PATH: Path = Path {
-    pair: NO_PAIR,
-    recv_chals: Received { items: [0; 8], count: 0 },
-    sent_chals: Sent { items: [NO_CHALLENGE; 16], count: 0 },
-    max_datagram_size: 0,
-    scid_seq: 0,
-    dcid_seq: 0,
-    lost_chal: 0,
-    max_challenge_size: 0,
-    anti_ampl_limit: 0,
-    state: 0,
-    has_scid: false,
-    has_dcid: false,
-    active: false,
-    need_send_challenge: false,
-    verified_peer_address: false,
-    peer_verified_local_address: false,
-    need_send_ping: false,
-    listed: false,
-};
+const NO_PATH: Path = zeros();
 
 impl State for Paths {
     const FRESH: &'static str = "vig_paths_fresh";
