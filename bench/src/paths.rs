@@ -13,30 +13,10 @@ answers!(PathAnswer, PathsFoundAnswer, AddressAnswer, RespondedAnswer);
 
 gives!(Paths in paths: PathsDoneOut Done, InsertedOut Counted, PoppedOut Numbered, RespondedOut RespondedAnswer);
 
-const NOWHERE: Pair = Pair { local: NO_ADDRESS, remote: NO_ADDRESS };
-const NO_ADDRESS: Address = Address { ip: [0; 16], flow: 0, scope: 0, port: 0, kind: 0 };
-const NO_CHALLENGE: Challenge = Challenge { data: 0, size: 0, sent: Moment { us: 0 }, deadline: Moment { us: 0 } };
-
-pub const NO_PATH: Path = Path {
-    pair: NOWHERE,
-    recv_chals: Received { items: [0; 8], count: 0 },
-    sent_chals: Sent { items: [NO_CHALLENGE; 16], count: 0 },
-    max_datagram_size: 0,
-    scid_seq: 0,
-    dcid_seq: 0,
-    lost_chal: 0,
-    max_challenge_size: 0,
-    anti_ampl_limit: 0,
-    state: 0,
-    has_scid: false,
-    has_dcid: false,
-    active: false,
-    need_send_challenge: false,
-    verified_peer_address: false,
-    peer_verified_local_address: false,
-    need_send_ping: false,
-    listed: false,
-};
+// SAFETY: numbers and bools, of which zero is one.
+const NOWHERE: Pair = unsafe { std::mem::zeroed() };
+const NO_CHALLENGE: Challenge = unsafe { std::mem::zeroed() };
+pub const NO_PATH: Path = unsafe { std::mem::zeroed() };
 
 /// The test, plainly written: the ten conjuncts of docs/RULES.md, "Well-formed paths", each with its number.
 impl Paths {
