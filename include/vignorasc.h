@@ -167,18 +167,18 @@ typedef struct vig_queue {
 
 /* Source IDs are those that this endpoint gave its peer, destination IDs those that the peer gave it. */
 typedef struct vig_ids {
-    vig_table source;
-    vig_table destination;
-    size_t capacity;
-    uint64_t dlimit;
-    uint64_t slimit;
-    bool zero_source;
-    bool zero_destination;
-    uint64_t next;
-    uint64_t rpt;
-    uint64_t largest;
-    vig_queue advertise;
-    vig_queue retire;
+    vig_table scids;
+    vig_table dcids;
+    size_t scid_capacity;
+    uint64_t dcid_limit;
+    uint64_t scid_limit;
+    bool zero_length_scid;
+    bool zero_length_dcid;
+    uint64_t next_scid_seq;
+    uint64_t retire_prior_to;
+    uint64_t largest_peer_retire_prior_to;
+    vig_queue scids_to_advertise;
+    vig_queue dcids_to_retire;
 } vig_ids;
 
 /* A fresh state. On a refusal it is all zeros, which every later call refuses. */
@@ -231,14 +231,14 @@ typedef struct vig_retired_answer {
 
 /* ---- RULES.md, "Source IDs"; `has` says whether there is a path: where there is none, path is 0 ---- */
 
-vig_ids_done_out vig_ids_fresh(uint64_t dlimit, vig_connection_id cid, uint64_t path, vig_token token);
+vig_ids_done_out vig_ids_fresh(uint64_t dcid_limit, vig_connection_id cid, uint64_t path, vig_token token);
 vig_done vig_ids_set_scid_limit(vig_ids *t, uint64_t n);
-vig_counted vig_ids_add_scid(vig_ids *t, vig_connection_id cid, vig_token token, bool advertise, bool has, uint64_t path, bool leave);
+vig_counted vig_ids_add_scid(vig_ids *t, vig_connection_id cid, vig_token token, bool advertise, bool has_path, uint64_t path, bool retire_if_needed);
 vig_numbered vig_ids_retire_scid(vig_ids *t, uint64_t seq, vig_connection_id packet);
 
 /* ---- RULES.md, "Destination IDs" ---- */
 
-vig_done vig_ids_set_initial_dcid(vig_ids *t, vig_connection_id cid, vig_token token, bool has, uint64_t path);
+vig_done vig_ids_set_initial_dcid(vig_ids *t, vig_connection_id cid, vig_token token, bool has_path, uint64_t path);
 vig_retired_answer vig_ids_add_dcid(vig_ids *t, vig_connection_id cid, uint64_t seq, vig_reset_token token, uint64_t retire_prior_to);
 
 /* ---- RULES.md, "Marks, queues and lookups" ---- */
@@ -393,14 +393,14 @@ vig_counted vig_paths_cmp_anti_ampl_limit(const vig_paths *t, uint64_t id, uint6
 
 /* ---- RULES.md, "Pings and multipath"; an absent pair is all zeros ---- */
 
-vig_done vig_paths_mark_ping(vig_paths *t, bool has, vig_four_tuple pair);
+vig_done vig_paths_mark_ping(vig_paths *t, bool has_pair, vig_four_tuple pair);
 vig_done vig_paths_enable_multipath(vig_paths *t);
 
 /* ---- RULES.md, "Fields a host may set"; an absent sequence is 0 ---- */
 
 vig_done vig_paths_set_active(vig_paths *t, uint64_t id, bool on);
-vig_done vig_paths_set_scid_seq(vig_paths *t, uint64_t id, bool has, uint64_t seq);
-vig_done vig_paths_set_dcid_seq(vig_paths *t, uint64_t id, bool has, uint64_t seq);
+vig_done vig_paths_set_scid_seq(vig_paths *t, uint64_t id, bool has_seq, uint64_t seq);
+vig_done vig_paths_set_dcid_seq(vig_paths *t, uint64_t id, bool has_seq, uint64_t seq);
 vig_done vig_paths_mark_verified(vig_paths *t, uint64_t id);
 
 #ifdef __cplusplus

@@ -42,8 +42,8 @@ structs! {
 
 // SAFETY: as of those in ffi.rs; these take no reference.
 unsafe extern "C" {
-    pub safe fn val_ids_fresh(dlimit: u64, cid: ConnectionId, path: u64, token: Token) -> IdsDoneOut;
-    pub safe fn val_ids_set_initial_dcid(s: Ids, cid: ConnectionId, token: Token, has: bool, path: u64) -> IdsDoneOut;
+    pub safe fn val_ids_fresh(dcid_limit: u64, cid: ConnectionId, path: u64, token: Token) -> IdsDoneOut;
+    pub safe fn val_ids_set_initial_dcid(s: Ids, cid: ConnectionId, token: Token, has_path: bool, path: u64) -> IdsDoneOut;
     pub safe fn val_ids_set_scid_limit(s: Ids, n: u64) -> IdsDoneOut;
     pub safe fn val_ids_get_scid(s: Ids, seq: u64) -> ItemAnswer;
     pub safe fn val_ids_get_dcid(s: Ids, seq: u64) -> ItemAnswer;
@@ -58,9 +58,9 @@ unsafe extern "C" {
         cid: ConnectionId,
         token: Token,
         advertise: bool,
-        has: bool,
+        has_path: bool,
         path: u64,
-        leave: bool,
+        retire_if_needed: bool,
     ) -> IssuedOut;
     pub safe fn val_ids_add_dcid(s: Ids, cid: ConnectionId, seq: u64, token: ResetToken, retire_prior_to: u64) -> RetiredOut;
     pub safe fn val_ids_retire_scid(s: Ids, seq: u64, packet: ConnectionId) -> FreedOut;
@@ -88,8 +88,8 @@ unsafe extern "C" {
     pub safe fn val_paths_active(t: Paths, id: u64) -> Flagged;
     pub safe fn val_paths_set_active(t: Paths, id: u64, on: bool) -> PathsDoneOut;
     pub safe fn val_paths_state(t: Paths, id: u64) -> Counted;
-    pub safe fn val_paths_set_scid_seq(t: Paths, id: u64, has: bool, seq: u64) -> PathsDoneOut;
-    pub safe fn val_paths_set_dcid_seq(t: Paths, id: u64, has: bool, seq: u64) -> PathsDoneOut;
+    pub safe fn val_paths_set_scid_seq(t: Paths, id: u64, has_seq: bool, seq: u64) -> PathsDoneOut;
+    pub safe fn val_paths_set_dcid_seq(t: Paths, id: u64, has_seq: bool, seq: u64) -> PathsDoneOut;
     pub safe fn val_paths_mark_verified(t: Paths, id: u64) -> PathsDoneOut;
     pub safe fn val_paths_fresh(pair: FourTuple, max_datagram_size: u64, limit: u64, factor: u64, server: bool)
         -> PathsDoneOut;
@@ -106,7 +106,7 @@ unsafe extern "C" {
     pub safe fn val_paths_inc_anti_ampl_limit(t: Paths, id: u64, length: u64) -> PathsDoneOut;
     pub safe fn val_paths_dec_anti_ampl_limit(t: Paths, id: u64, length: u64) -> PathsDoneOut;
     pub safe fn val_paths_cmp_anti_ampl_limit(t: Paths, id: u64, wish: u64) -> Counted;
-    pub safe fn val_paths_mark_ping(t: Paths, has: bool, pair: FourTuple) -> PathsDoneOut;
+    pub safe fn val_paths_mark_ping(t: Paths, has_pair: bool, pair: FourTuple) -> PathsDoneOut;
     pub safe fn val_paths_enable_multipath(t: Paths) -> PathsDoneOut;
 
     pub safe fn val_timers_fresh() -> TimerTable;

@@ -48,18 +48,18 @@ pub mod cid {
                 count: queue.len(),
             };
             Ids {
-                source: table(&self.scids),
-                destination: table(&self.dcids),
-                capacity: self.scids.capacity,
-                dlimit: self.dcid_limit as u64,
-                slimit: self.scid_limit as u64,
-                zero_source: self.zero_length_scid,
-                zero_destination: self.zero_length_dcid,
-                next: self.next_scid_seq,
-                rpt: self.retire_prior_to,
-                largest: self.largest_peer_retire_prior_to,
-                advertise: queue(&self.scids_to_advertise),
-                retire: queue(&self.dcids_to_retire),
+                scids: table(&self.scids),
+                dcids: table(&self.dcids),
+                scid_capacity: self.scids.scid_capacity,
+                dcid_limit: self.dcid_limit as u64,
+                scid_limit: self.scid_limit as u64,
+                zero_length_scid: self.zero_length_scid,
+                zero_length_dcid: self.zero_length_dcid,
+                next_scid_seq: self.next_scid_seq,
+                retire_prior_to: self.retire_prior_to,
+                largest_peer_retire_prior_to: self.largest_peer_retire_prior_to,
+                scids_to_advertise: queue(&self.scids_to_advertise),
+                dcids_to_retire: queue(&self.dcids_to_retire),
             }
         }
     }

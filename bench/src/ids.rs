@@ -17,22 +17,22 @@ type Cid = ConnectionId;
 /// The test, plainly written: the sixteen conjuncts of docs/RULES.md, "Well-formed IDs", each with its number.
 impl Ids {
     fn formed(&self) -> bool {
-        let (source, destination) = (&self.source, &self.destination);
-        (1..=16).contains(&self.dlimit) // 1
-            && (2..=16).contains(&self.slimit) // 2
-            && self.capacity % 2 == 1
-            && self.capacity <= 31
-            && 2 * self.slimit - 1 <= self.capacity as u64 // 3
-            && (1..=self.capacity).contains(&source.count) // 4
+        let (source, destination) = (&self.scids, &self.dcids);
+        (1..=16).contains(&self.dcid_limit) // 1
+            && (2..=16).contains(&self.scid_limit) // 2
+            && self.scid_capacity % 2 == 1
+            && self.scid_capacity <= 31
+            && 2 * self.scid_limit - 1 <= self.scid_capacity as u64 // 3
+            && (1..=self.scid_capacity).contains(&source.count) // 4
             && source.live().windows(2).all(|two| two[0].seq < two[1].seq)
-            && source.live().last().is_some_and(|last| last.seq < self.next) // 5
-            && destination.count as u64 <= 2 * self.dlimit - 1 // 6
+            && source.live().last().is_some_and(|last| last.seq < self.next_scid_seq) // 5
+            && destination.count as u64 <= 2 * self.dcid_limit - 1 // 6
             && destination.distinct() // 7, 8
-            && (1..=1 << 62).contains(&self.next) // 10
-            && self.rpt <= self.next // 11
-            && self.advertise.count <= 128
-            && self.retire.count <= 128 // 12
-            && [&self.advertise, &self.retire].iter().all(|queue| queue.formed()) // 16
+            && (1..=1 << 62).contains(&self.next_scid_seq) // 10
+            && self.retire_prior_to <= self.next_scid_seq // 11
+            && self.scids_to_advertise.count <= 128
+            && self.dcids_to_retire.count <= 128 // 12
+            && [&self.scids_to_advertise, &self.dcids_to_retire].iter().all(|queue| queue.formed()) // 16
             && source.formed()
             && destination.formed()
     }
@@ -72,24 +72,24 @@ const ZERO: Item = unsafe { std::mem::zeroed() };
 /// The same test in the shape of ours: no branch that isn't needed, and what must be zero is merged and tested once.
 impl Ids {
     fn tuned(&self) -> bool {
-        let (source, destination) = (&self.source, &self.destination);
-        let within = (1 <= self.dlimit)
-            & (self.dlimit <= 16)
-            & (2 <= self.slimit)
-            & (self.slimit <= 16)
-            & (self.capacity % 2 == 1)
-            & (self.slimit as usize <= self.capacity / 2 + self.capacity % 2)
-            & (self.capacity <= 31)
+        let (source, destination) = (&self.scids, &self.dcids);
+        let within = (1 <= self.dcid_limit)
+            & (self.dcid_limit <= 16)
+            & (2 <= self.scid_limit)
+            & (self.scid_limit <= 16)
+            & (self.scid_capacity % 2 == 1)
+            & (self.scid_limit as usize <= self.scid_capacity / 2 + self.scid_capacity % 2)
+            & (self.scid_capacity <= 31)
             & (1 <= source.count)
-            & (source.count <= self.capacity)
-            & ((destination.count / 2) < self.dlimit as usize)
+            & (source.count <= self.scid_capacity)
+            & ((destination.count / 2) < self.dcid_limit as usize)
             & (destination.count <= 31)
-            & (1 <= self.next)
-            & (self.next <= 1 << 62)
-            & (self.rpt <= self.next)
-            & (self.advertise.count <= 128)
-            & (self.retire.count <= 128);
-        within && source.rising(self.next) & destination.apart() & self.advertise.tuned() & self.retire.tuned()
+            & (1 <= self.next_scid_seq)
+            & (self.next_scid_seq <= 1 << 62)
+            & (self.retire_prior_to <= self.next_scid_seq)
+            & (self.scids_to_advertise.count <= 128)
+            & (self.dcids_to_retire.count <= 128);
+        within && source.rising(self.next_scid_seq) & destination.apart() & self.scids_to_advertise.tuned() & self.dcids_to_retire.tuned()
     }
 }
 
@@ -279,14 +279,14 @@ fn filled<M: Made>(full: bool, room: bool) -> M {
     let last = last(full, room);
     let mut ids = M::fresh(limit, Cid::of(SOURCE, 0), Token::of(SOURCE, 0));
     ids.set_scid_limit(limit);
-    for seq in 1..=last.source {
+    for seq in 1..=last.scids {
         ids.add_scid(Cid::of(SOURCE, seq), Token::of(SOURCE, seq));
     }
-    for seq in 1..=last.source.min(15) {
+    for seq in 1..=last.scids.min(15) {
         ids.announced(seq);
     }
     ids.set_initial_dcid(Cid::of(DESTINATION, 0), Token::of(DESTINATION, 0));
-    for seq in 1..=last.destination {
+    for seq in 1..=last.dcids {
         let rpt = if seq > RETIRED { RETIRED } else { 0 };
         ids.add_dcid(Cid::of(DESTINATION, seq), seq, Token::of(DESTINATION, seq), rpt);
     }
@@ -470,7 +470,7 @@ fn rows(full: bool) -> Vec<Row> {
         |s, (cid, token)| val_ids_add_scid(*s, cid, token, true, false, 0, true),
         |m, (cid, token)| m.add_scid(cid, Some(token), true, None, true),
     );
-    let seq = room.destination + 1;
+    let seq = room.dcids + 1;
     // No higher Retire Prior To than before; and one that moves the first item, of full tables sixteen.
     let rpt = if full { [RETIRED, RETIRED + 16] } else { [0, 1] };
     for (name, rpt) in ["add_dcid", "add_dcid, retiring"].into_iter().zip(rpt) {

@@ -126,18 +126,18 @@ structs! {
     }
 
     Ids {
-        source: Table,
-        destination: Table,
-        capacity: usize,
-        dlimit: u64,
-        slimit: u64,
-        zero_source: bool,
-        zero_destination: bool,
-        next: u64,
-        rpt: u64,
-        largest: u64,
-        advertise: Queue,
-        retire: Queue,
+        scids: Table,
+        dcids: Table,
+        scid_capacity: usize,
+        dcid_limit: u64,
+        scid_limit: u64,
+        zero_length_scid: bool,
+        zero_length_dcid: bool,
+        next_scid_seq: u64,
+        retire_prior_to: u64,
+        largest_peer_retire_prior_to: u64,
+        scids_to_advertise: Queue,
+        dcids_to_retire: Queue,
     }
 
     IdsDoneOut {
@@ -277,8 +277,8 @@ unsafe extern "C" {
     pub safe fn vig_timers_is_expired(t: &TimerTable, timer: u64, moment: Moment) -> Flagged;
     pub safe fn vig_timers_clear(t: &mut TimerTable) -> Done;
 
-    pub safe fn vig_ids_fresh(dlimit: u64, cid: ConnectionId, path: u64, token: Token) -> IdsDoneOut;
-    pub safe fn vig_ids_set_initial_dcid(t: &mut Ids, cid: ConnectionId, token: Token, has: bool, path: u64) -> Done;
+    pub safe fn vig_ids_fresh(dcid_limit: u64, cid: ConnectionId, path: u64, token: Token) -> IdsDoneOut;
+    pub safe fn vig_ids_set_initial_dcid(t: &mut Ids, cid: ConnectionId, token: Token, has_path: bool, path: u64) -> Done;
     pub safe fn vig_ids_set_scid_limit(t: &mut Ids, n: u64) -> Done;
     pub safe fn vig_ids_get_scid(t: &Ids, seq: u64) -> ItemAnswer;
     pub safe fn vig_ids_get_dcid(t: &Ids, seq: u64) -> ItemAnswer;
@@ -293,9 +293,9 @@ unsafe extern "C" {
         cid: ConnectionId,
         token: Token,
         advertise: bool,
-        has: bool,
+        has_path: bool,
         path: u64,
-        leave: bool,
+        retire_if_needed: bool,
     ) -> Counted;
     pub safe fn vig_ids_add_dcid(
         t: &mut Ids,
@@ -329,8 +329,8 @@ unsafe extern "C" {
     pub safe fn vig_paths_active(t: &Paths, id: u64) -> Flagged;
     pub safe fn vig_paths_set_active(t: &mut Paths, id: u64, on: bool) -> Done;
     pub safe fn vig_paths_state(t: &Paths, id: u64) -> Counted;
-    pub safe fn vig_paths_set_scid_seq(t: &mut Paths, id: u64, has: bool, seq: u64) -> Done;
-    pub safe fn vig_paths_set_dcid_seq(t: &mut Paths, id: u64, has: bool, seq: u64) -> Done;
+    pub safe fn vig_paths_set_scid_seq(t: &mut Paths, id: u64, has_seq: bool, seq: u64) -> Done;
+    pub safe fn vig_paths_set_dcid_seq(t: &mut Paths, id: u64, has_seq: bool, seq: u64) -> Done;
     pub safe fn vig_paths_mark_verified(t: &mut Paths, id: u64) -> Done;
     pub safe fn vig_paths_fresh(pair: FourTuple, max_datagram_size: u64, limit: u64, factor: u64, server: bool)
         -> PathsDoneOut;
@@ -347,7 +347,7 @@ unsafe extern "C" {
     pub safe fn vig_paths_inc_anti_ampl_limit(t: &mut Paths, id: u64, length: u64) -> Done;
     pub safe fn vig_paths_dec_anti_ampl_limit(t: &mut Paths, id: u64, length: u64) -> Done;
     pub safe fn vig_paths_cmp_anti_ampl_limit(t: &Paths, id: u64, wish: u64) -> Counted;
-    pub safe fn vig_paths_mark_ping(t: &mut Paths, has: bool, pair: FourTuple) -> Done;
+    pub safe fn vig_paths_mark_ping(t: &mut Paths, has_pair: bool, pair: FourTuple) -> Done;
     pub safe fn vig_paths_enable_multipath(t: &mut Paths) -> Done;
 }
 

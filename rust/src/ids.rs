@@ -272,14 +272,14 @@ mod tests {
             let source = Item { seq: n.into(), cid: cid(n + 1), token: Some(token(n + 1)), path };
             assert_eq!(ids.scid_at(place), Ok(Some(source)));
             assert_eq!(ids.get_scid(n.into()), Ok(source));
-            assert_eq!(item(ids.0.source.items[place]), source);
+            assert_eq!(item(ids.0.scids.items[place]), source);
 
             let seq = if n == 0 { 0 } else { 1 << n };
             let path = (n % 2 == 0).then_some(200 + place);
             let destination = Item { seq, cid: cid(n + 41), token: Some(token(n + 41)), path };
             assert_eq!(ids.dcid_at(place), Ok(Some(destination)));
             assert_eq!(ids.get_dcid(seq), Ok(destination));
-            assert_eq!(item(ids.0.destination.items[place]), destination);
+            assert_eq!(item(ids.0.dcids.items[place]), destination);
         }
         assert_eq!((ids.scid_at(16), ids.dcid_at(16)), (Ok(None), Ok(None)));
         assert_eq!((ids.scids().count(), ids.dcids().count()), (16, 16));
@@ -289,11 +289,11 @@ mod tests {
         assert_eq!(ids.lowest_unused_dcid_seq(), Ok(Some(2)));
 
         let c = &ids.0;
-        assert_eq!((c.source.count, c.destination.count, c.capacity), (16, 16, 31));
-        assert_eq!((c.dlimit, c.slimit, c.next, c.rpt, c.largest), (16, 16, 16, 0, 0));
-        assert_eq!((c.zero_source, c.zero_destination), (false, false));
-        assert_eq!(c.advertise.items[..c.advertise.count], [2, 4, 6, 8, 10, 12, 14]);
-        assert_eq!(c.retire.count, 0);
+        assert_eq!((c.scids.count, c.dcids.count, c.scid_capacity), (16, 16, 31));
+        assert_eq!((c.dcid_limit, c.scid_limit, c.next_scid_seq, c.retire_prior_to, c.largest_peer_retire_prior_to), (16, 16, 16, 0, 0));
+        assert_eq!((c.zero_length_scid, c.zero_length_dcid), (false, false));
+        assert_eq!(c.scids_to_advertise.items[..c.scids_to_advertise.count], [2, 4, 6, 8, 10, 12, 14]);
+        assert_eq!(c.dcids_to_retire.count, 0);
     }
 
     #[test]
@@ -306,7 +306,7 @@ mod tests {
         }
         let retired = ids.add_dcid(cid(60), 40, token(60), 12).unwrap();
         assert_eq!(retired, (0..12).map(|n| (n, 7 + n as usize)).collect::<Vec<_>>());
-        assert_eq!((ids.0.largest, ids.0.retire.count, ids.0.retire.items[11]), (12, 12, 11));
+        assert_eq!((ids.0.largest_peer_retire_prior_to, ids.0.dcids_to_retire.count, ids.0.dcids_to_retire.items[11]), (12, 12, 11));
         for n in 0..12 {
             assert_eq!(ids.next_dcid_to_retire(), Ok(Some(n)));
             ids.mark_dcid_to_retire(n, false).unwrap();
@@ -327,7 +327,7 @@ mod tests {
         assert_eq!(ids.next_scid_to_advertise(), Ok(Some(2)));
         assert_eq!(ids.retire_scid(0, cid(9)), Ok(Some(0)));
         assert_eq!(ids.retire_scid(1, cid(10)), Ok(None));
-        assert_eq!((ids.0.rpt, ids.0.next), (2, 3));
+        assert_eq!((ids.0.retire_prior_to, ids.0.next_scid_seq), (2, 3));
         // The only one left, then one that was never issued.
         assert_eq!(ids.retire_scid(2, cid(9)), Err(Refusal::InternalError));
         assert_eq!(ids.retire_scid(3, cid(9)), Err(Refusal::ProtocolViolation));
@@ -355,10 +355,10 @@ mod tests {
         let before = ids.clone();
         assert_eq!(ids.mark_dcid_to_retire(128, true), Err(Refusal::NoSlot));
         assert_eq!(ids, before);
-        ids.0.next = 1 << 62;
+        ids.0.next_scid_seq = 1 << 62;
         assert_eq!(ids.add_scid(cid(2), Some(token(2)), false, None, false), Err(Refusal::Spent));
         // Only this module can write a field.
-        ids.0.dlimit = 0;
+        ids.0.dcid_limit = 0;
         assert_eq!(ids.scid_count(), Err(Refusal::Malformed));
     }
 }

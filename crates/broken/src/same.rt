@@ -49,14 +49,14 @@ fn queue(a: Queue, b: Queue) -> bool {
 }
 
 pub fn ids(s: Ids, t: Ids) -> bool {
-    let a = s.source;
-    let b = t.source;
-    let c = s.destination;
-    let d = t.destination;
-    let e = s.advertise;
-    let f = t.advertise;
-    let g = s.retire;
-    let h = t.retire;
+    let a = s.scids;
+    let b = t.scids;
+    let c = s.dcids;
+    let d = t.dcids;
+    let e = s.scids_to_advertise;
+    let f = t.scids_to_advertise;
+    let g = s.dcids_to_retire;
+    let h = t.dcids_to_retire;
     let w = table(a, b);
     let x = table(c, d);
     let y = queue(e, f);
@@ -65,12 +65,12 @@ pub fn ids(s: Ids, t: Ids) -> bool {
         & x
         & y
         & z
-        & (s.capacity == t.capacity)
-        & (s.dlimit == t.dlimit)
-        & (s.slimit == t.slimit)
-        & (s.zero_source == t.zero_source)
-        & (s.zero_destination == t.zero_destination)
-        & (s.next == t.next)
-        & (s.rpt == t.rpt)
-        & (s.largest == t.largest)
+        & (s.scid_capacity == t.scid_capacity)
+        & (s.dcid_limit == t.dcid_limit)
+        & (s.scid_limit == t.scid_limit)
+        & (s.zero_length_scid == t.zero_length_scid)
+        & (s.zero_length_dcid == t.zero_length_dcid)
+        & (s.next_scid_seq == t.next_scid_seq)
+        & (s.retire_prior_to == t.retire_prior_to)
+        & (s.largest_peer_retire_prior_to == t.largest_peer_retire_prior_to)
 }

@@ -112,35 +112,45 @@ fn overfull() -> Queue {
 }
 
 fn state(
-    dlimit: u64,
-    slimit: u64,
+    dcid_limit: u64,
+    scid_limit: u64,
     capacity: usize,
     source: Table,
     destination: Table,
     next: u64,
-    rpt: u64,
+    retire_prior_to: u64,
     advertise: Queue,
     retire: Queue,
 ) -> Ids {
     Ids {
-        source: source,
-        destination: destination,
-        capacity: capacity,
-        dlimit: dlimit,
-        slimit: slimit,
-        zero_source: false,
-        zero_destination: false,
-        next: next,
-        rpt: rpt,
-        largest: 0,
-        advertise: advertise,
-        retire: retire,
+        scids: source,
+        dcids: destination,
+        scid_capacity: capacity,
+        dcid_limit: dcid_limit,
+        scid_limit: scid_limit,
+        zero_length_scid: false,
+        zero_length_dcid: false,
+        next_scid_seq: next,
+        retire_prior_to: retire_prior_to,
+        largest_peer_retire_prior_to: 0,
+        scids_to_advertise: advertise,
+        dcids_to_retire: retire,
     }
 }
 
 // The good one but for what is named.
-fn limits(dlimit: u64, slimit: u64, capacity: usize) -> Ids {
-    state(dlimit, slimit, capacity, two(), two(), 6, 0, none(), none())
+fn limits(dcid_limit: u64, scid_limit: u64, capacity: usize) -> Ids {
+    state(
+        dcid_limit,
+        scid_limit,
+        capacity,
+        two(),
+        two(),
+        6,
+        0,
+        none(),
+        none(),
+    )
 }
 
 fn sources(t: Table, next: u64) -> Ids {
@@ -151,8 +161,18 @@ fn destinations(t: Table) -> Ids {
     state(8, 8, 15, two(), t, 6, 0, none(), none())
 }
 
-fn sequences(next: u64, rpt: u64) -> Ids {
-    state(8, 8, 15, two(), two(), next, rpt, none(), none())
+fn sequences(next: u64, retire_prior_to: u64) -> Ids {
+    state(
+        8,
+        8,
+        15,
+        two(),
+        two(),
+        next,
+        retire_prior_to,
+        none(),
+        none(),
+    )
 }
 
 fn queues(advertise: Queue, retire: Queue) -> Ids {

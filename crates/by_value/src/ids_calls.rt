@@ -19,10 +19,15 @@ use values::ResetToken;
 use values::Token;
 
 #[no_mangle]
-pub extern "C" fn val_ids_fresh(dlimit: u64, cid: ConnectionId, path: u64, token: Token) -> DoneOut
-    ensures { λ r. ⌜ r ≡ freshIds dlimit cid path token ⌝ }
+pub extern "C" fn val_ids_fresh(
+    dcid_limit: u64,
+    cid: ConnectionId,
+    path: u64,
+    token: Token,
+) -> DoneOut
+    ensures { λ r. ⌜ r ≡ freshIds «dcid_limit» cid path token ⌝ }
 {
-    ids::fresh(dlimit, cid, path, token)
+    ids::fresh(dcid_limit, cid, path, token)
 }
 
 #[no_mangle]
@@ -30,12 +35,12 @@ pub extern "C" fn val_ids_set_initial_dcid(
     s: Ids,
     cid: ConnectionId,
     token: Token,
-    has: bool,
+    has_path: bool,
     path: u64,
 ) -> DoneOut
-    ensures { λ r. ⌜ R.Done r ≡ R.result s (R.SetInitialDcid cid token has path) ⌝ }
+    ensures { λ r. ⌜ R.Done r ≡ R.result s (R.SetInitialDcid cid token «has_path» path) ⌝ }
 {
-    ids::set_initial_dcid(s, cid, token, has, path)
+    ids::set_initial_dcid(s, cid, token, has_path, path)
 }
 
 #[no_mangle]
@@ -107,13 +112,13 @@ pub extern "C" fn val_ids_add_scid(
     cid: ConnectionId,
     token: Token,
     advertise: bool,
-    has: bool,
+    has_path: bool,
     path: u64,
-    leave: bool,
+    retire_if_needed: bool,
 ) -> IssuedOut
-    ensures { λ r. ⌜ R.Issued r ≡ R.result s (R.AddScid cid token advertise has path leave) ⌝ }
+    ensures { λ r. ⌜ R.Issued r ≡ R.result s (R.AddScid cid token advertise «has_path» path «retire_if_needed») ⌝ }
 {
-    ids::add_scid(s, cid, token, advertise, has, path, leave)
+    ids::add_scid(s, cid, token, advertise, has_path, path, retire_if_needed)
 }
 
 #[no_mangle]

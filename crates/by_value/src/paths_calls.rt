@@ -94,17 +94,17 @@ pub extern "C" fn val_paths_state(t: Paths, id: u64) -> Counted
 }
 
 #[no_mangle]
-pub extern "C" fn val_paths_set_scid_seq(t: Paths, id: u64, has: bool, seq: u64) -> DoneOut
-    ensures { λ r. ⌜ R.Done r ≡ R.result t (R.SetScidSeq id has seq) ⌝ }
+pub extern "C" fn val_paths_set_scid_seq(t: Paths, id: u64, has_seq: bool, seq: u64) -> DoneOut
+    ensures { λ r. ⌜ R.Done r ≡ R.result t (R.SetScidSeq id «has_seq» seq) ⌝ }
 {
-    paths::set_scid_seq(t, id, has, seq)
+    paths::set_scid_seq(t, id, has_seq, seq)
 }
 
 #[no_mangle]
-pub extern "C" fn val_paths_set_dcid_seq(t: Paths, id: u64, has: bool, seq: u64) -> DoneOut
-    ensures { λ r. ⌜ R.Done r ≡ R.result t (R.SetDcidSeq id has seq) ⌝ }
+pub extern "C" fn val_paths_set_dcid_seq(t: Paths, id: u64, has_seq: bool, seq: u64) -> DoneOut
+    ensures { λ r. ⌜ R.Done r ≡ R.result t (R.SetDcidSeq id «has_seq» seq) ⌝ }
 {
-    paths::set_dcid_seq(t, id, has, seq)
+    paths::set_dcid_seq(t, id, has_seq, seq)
 }
 
 #[no_mangle]
@@ -234,10 +234,10 @@ pub extern "C" fn val_paths_cmp_anti_ampl_limit(t: Paths, id: u64, wish: u64) ->
 }
 
 #[no_mangle]
-pub extern "C" fn val_paths_mark_ping(t: Paths, has: bool, pair: FourTuple) -> DoneOut
-    ensures { λ r. ⌜ R.Done r ≡ R.result t (R.MarkPing has pair) ⌝ }
+pub extern "C" fn val_paths_mark_ping(t: Paths, has_pair: bool, pair: FourTuple) -> DoneOut
+    ensures { λ r. ⌜ R.Done r ≡ R.result t (R.MarkPing «has_pair» pair) ⌝ }
 {
-    paths::mark_ping(t, has, pair)
+    paths::mark_ping(t, has_pair, pair)
 }
 
 #[no_mangle]

@@ -40,38 +40,38 @@ done-leaves u a r e = record { state = ap (λ (x : DoneOut). x .ids) e; answer =
 -- ---- the calls that change several fields: those fields, put into the state, and the answer
 
 abbrev pub issuedIn : Ids → IssuedParts → IssuedOut
-issuedIn s r = record { ids = putIssued (r .source) (r .advertise) (r .next) (r .rpt) s; answer = r .answer }
+issuedIn s r = record { ids = putIssued (r .scids) (r .«scids_to_advertise») (r .«next_scid_seq») (r .«retire_prior_to») s; answer = r .answer }
 
 abbrev pub freedIn : Ids → FreedParts → FreedOut
-freedIn s r = record { ids = putSourceRpt (r .source) (r .rpt) s; answer = r .answer }
+freedIn s r = record { ids = putSourceRpt (r .scids) (r .«retire_prior_to») s; answer = r .answer }
 
 abbrev pub retiredIn : Ids → RetiredParts → RetiredOut
-retiredIn s r = record { ids = putLowered (r .destination) (r .retire) (r .largest) s; answer = r .answer }
+retiredIn s r = record { ids = putLowered (r .dcids) (r .«dcids_to_retire») (r .«largest_peer_retire_prior_to») s; answer = r .answer }
 
-pub issued-leaves : (s : Ids) (p : IssuedParts) (r : IssuedOut) → issuedIn s p ≡ r → Leaves (putIssued (p .source) (p .advertise) (p .next) (p .rpt) s) (r .ids) (p .answer) (r .answer)
+pub issued-leaves : (s : Ids) (p : IssuedParts) (r : IssuedOut) → issuedIn s p ≡ r → Leaves (putIssued (p .scids) (p .«scids_to_advertise») (p .«next_scid_seq») (p .«retire_prior_to») s) (r .ids) (p .answer) (r .answer)
 issued-leaves s p r e = record { state = ap (λ (x : IssuedOut). x .ids) e; answer = ap (λ (x : IssuedOut). x .answer) e }
 
-pub freed-leaves : (s : Ids) (p : FreedParts) (r : FreedOut) → freedIn s p ≡ r → Leaves (putSourceRpt (p .source) (p .rpt) s) (r .ids) (p .answer) (r .answer)
+pub freed-leaves : (s : Ids) (p : FreedParts) (r : FreedOut) → freedIn s p ≡ r → Leaves (putSourceRpt (p .scids) (p .«retire_prior_to») s) (r .ids) (p .answer) (r .answer)
 freed-leaves s p r e = record { state = ap (λ (x : FreedOut). x .ids) e; answer = ap (λ (x : FreedOut). x .answer) e }
 
 -- no path was freed, no pair retired
 abbrev pub freeNone : ℕ → Table → ℕ → FreedParts
-freeNone refusal t rpt = record { source = t; rpt = rpt; answer = numberedAt refusal none }
+freeNone refusal t rpt = record { scids = t; «retire_prior_to» = rpt; answer = numberedAt refusal none }
 
 abbrev pub retireNone : ℕ → Table → Queue → ℕ → RetiredParts
-retireNone refusal t q largest = record { destination = t; retire = q; largest = largest; answer = record { refusal = refusal; used = usedOf [] } }
+retireNone refusal t q largest = record { dcids = t; «dcids_to_retire» = q; «largest_peer_retire_prior_to» = largest; answer = record { refusal = refusal; used = usedOf [] } }
 
 -- the fields that add_dcid's steps are given are those of a well-formed state: rest has its other fields
-pub record Held (t : Table) (q : Queue) (largest dlimit : ℕ) : Type 0 where
+pub record Held (t : Table) (q : Queue) (largest dcidLimit : ℕ) : Type 0 where
   pub rest : Ids
-  pub well : wellFormed (putHeld t q largest dlimit rest) ≡ true
+  pub well : wellFormed (putHeld t q largest dcidLimit rest) ≡ true
 
-abbrev pub held : {t : Table} {q : Queue} {largest dlimit : ℕ} → Held t q largest dlimit → Ids
-held {t} {q} {largest} {dlimit} h = putHeld t q largest dlimit (h .rest)
+abbrev pub held : {t : Table} {q : Queue} {largest dcidLimit : ℕ} → Held t q largest dcidLimit → Ids
+held {t} {q} {largest} {dcidLimit} h = putHeld t q largest dcidLimit (h .rest)
 
 -- put into any such state, r is what f gives of its view
 abbrev pub Gives : Table → Queue → ℕ → ℕ → RetiredParts → (f : View → Out) → Type 0
-Gives t q largest dlimit r f = (h : Held t q largest dlimit) → retiredIn (held h) r ≡ retiredOf (f (view (held h)))
+Gives t q largest dcidLimit r f = (h : Held t q largest dcidLimit) → retiredIn (held h) r ≡ retiredOf (f (view (held h)))
 
 -- ---- the marks, on one table or one queue
 

@@ -15,7 +15,8 @@ use Rattle.values.specs.declared.token.Token.{Token}
 use Rattle.values.specs.declared.cid.ConnectionId.{ConnectionId}
 use Rattle.values.specs.declared.used.UsedSeq.{UsedSeq}
 use Rattle.ids_rules.specs.Values.{Item, from, below, clashes, sameToken, repeats}
-use Rattle.ids_rules.specs.View.{withRetire, Out, refused, accepted, Retired}
+use Rattle.ids_rules.specs.View.{Out, refused, accepted, Retired}
+use Rattle.ids_rules.specs.With.{withDcidsToRetire}
 use Rattle.ids_rules.specs.Steps.{append, queueLate, pairs, lowered, raise, addNew, addDcid}
 use Rattle.tables.specs.Table.{live, entries, tableOf, queueOf}
 use Rattle.tables.specs.Laws.{entries-long, live-long, live-of}
@@ -34,7 +35,7 @@ use Rattle.tables.specs.Table as T
 use Rattle.ids_state.specs.Formed as F
 
 module _ (s : Ids) (w : wellFormed s ≡ true) where
-  pub retires-is : (l : List ℕ) (q : Queue) → q ≡ queueOf l → putRetire q s ≡ idsOf (withRetire l (view s))
+  pub retires-is : (l : List ℕ) (q : Queue) → q ≡ queueOf l → putRetire q s ≡ idsOf (withDcidsToRetire l (view s))
   retires-is l q e = ap₂ putRetire e (sym (view-is s w))
 
   -- a call that changed nothing
@@ -42,24 +43,24 @@ module _ (s : Ids) (w : wellFormed s ≡ true) where
   keeps n o e r q = q ∙ ap (retiredAt n []) (sym (view-is s w)) ∙ sym (ap retiredOf e)
 
   module _ (seq : ℕ) where
-    pub late-6 : queueSlots ≤ s .retire .count → (r : RetiredOut) → r ≡ retiredAt 6 [] s → r ≡ retiredOf (queueLate seq (view s))
+    pub late-6 : queueSlots ≤ s .«dcids_to_retire» .count → (r : RetiredOut) → r ≡ retiredAt 6 [] s → r ≡ retiredOf (queueLate seq (view s))
     late-6 h = keeps 6 (queueLate seq (view s)) (late-full seq (view s) (omega (arith, retire-long s w)))
 
-    module _ (h : s .retire .count < queueSlots) (q : Queue) (e : q ≡ queueOf (entries (s .retire) ++ (seq ∷ []))) (r : RetiredOut) where
-      pub late-4 : retireFactor * s .dlimit < q .count → r ≡ retiredAt 4 [] (putRetire q s) → r ≡ retiredOf (queueLate seq (view s))
-      late-4 k y = y ∙ ap (retiredAt 4 []) (retires-is (entries (s .retire) ++ (seq ∷ [])) q e) ∙ sym (ap retiredOf (late-many seq (view s) (omega (arith, retire-long s w)) (omega (arith, k, ap (λ (z : Queue). z .count) e))))
+    module _ (h : s .«dcids_to_retire» .count < queueSlots) (q : Queue) (e : q ≡ queueOf (entries (s .«dcids_to_retire») ++ (seq ∷ []))) (r : RetiredOut) where
+      pub late-4 : retireFactor * s .«dcid_limit» < q .count → r ≡ retiredAt 4 [] (putRetire q s) → r ≡ retiredOf (queueLate seq (view s))
+      late-4 k y = y ∙ ap (retiredAt 4 []) (retires-is (entries (s .«dcids_to_retire») ++ (seq ∷ [])) q e) ∙ sym (ap retiredOf (late-many seq (view s) (omega (arith, retire-long s w)) (omega (arith, k, ap (λ (z : Queue). z .count) e))))
 
-      pub late-0 : q .count ≤ retireFactor * s .dlimit → r ≡ retiredAt 0 [] (putRetire q s) → r ≡ retiredOf (queueLate seq (view s))
-      late-0 k y = y ∙ ap (retiredAt 0 []) (retires-is (entries (s .retire) ++ (seq ∷ [])) q e) ∙ sym (ap retiredOf (late-ok seq (view s) (omega (arith, retire-long s w)) (omega (arith, k, ap (λ (z : Queue). z .count) e))))
+      pub late-0 : q .count ≤ retireFactor * s .«dcid_limit» → r ≡ retiredAt 0 [] (putRetire q s) → r ≡ retiredOf (queueLate seq (view s))
+      late-0 k y = y ∙ ap (retiredAt 0 []) (retires-is (entries (s .«dcids_to_retire») ++ (seq ∷ [])) q e) ∙ sym (ap retiredOf (late-ok seq (view s) (omega (arith, retire-long s w)) (omega (arith, k, ap (λ (z : Queue). z .count) e))))
 
   module _ (x : I.Item) where
-    pub append-3 : 2 * s .dlimit - 1 ≤ s .destination .count → (r : RetiredOut) → r ≡ retiredAt 3 [] s → r ≡ retiredOf (append (itemView x) [] (view s))
+    pub append-3 : 2 * s .«dcid_limit» - 1 ≤ s .dcids .count → (r : RetiredOut) → r ≡ retiredAt 3 [] s → r ≡ retiredOf (append (itemView x) [] (view s))
     append-3 h = keeps 3 (append (itemView x) [] (view s)) (append-full (itemView x) [] (view s) (omega (arith, dcids-long s w)))
 
-    pub append-0 : F.itemFormed x ≡ true → s .destination .count < 2 * s .dlimit - 1 → (t : Table) → t ≡ tableOf (live (s .destination) ++ (x ∷ []))
+    pub append-0 : F.itemFormed x ≡ true → s .dcids .count < 2 * s .«dcid_limit» - 1 → (t : Table) → t ≡ tableOf (live (s .dcids) ++ (x ∷ []))
         → (r : RetiredOut) → r ≡ retiredAt 0 [] (putDestination t s) → r ≡ retiredOf (append (itemView x) [] (view s))
     append-0 f h t e r y =
-        y ∙ ap₂ (λ (u : Table) (v : Ids). retiredAt 0 [] (putDestination u v)) (e ∙ ap tableOf (sym (snoc-back (view s .dcids) (live (s .destination)) (itemView x) x (dcids-back s w) (item-back x f)))) (sym (view-is s w))
+        y ∙ ap₂ (λ (u : Table) (v : Ids). retiredAt 0 [] (putDestination u v)) (e ∙ ap tableOf (sym (snoc-back (view s .dcids) (live (s .dcids)) (itemView x) x (dcids-back s w) (item-back x f)))) (sym (view-is s w))
         ∙ sym (ap retiredOf (append-ok (itemView x) [] (view s) (omega (arith, dcids-long s w))))
 
 -- those that pass and those that do not are all
@@ -85,7 +86,7 @@ low-pairs b (x ∷ l) = go (T.below b x) (x .«has_path») (low-pairs b l)
 
 module _ (s : Ids) (w : wellFormed s ≡ true) (x : I.Item) (f : F.itemFormed x ≡ true) (b : ℕ) where
   abbrev l : List I.Item
-  l = live (s .destination)
+  l = live (s .dcids)
 
   kept-back : map itemOf (keep (from b) (view s .dcids)) ≡ keep (T.atLeast b) l
   kept-back = sym (keep-view itemOf (T.atLeast b) (from b) (λ y. refl) (view s .dcids)) ∙ ap (keep (T.atLeast b)) (dcids-back s w)
@@ -93,21 +94,21 @@ module _ (s : Ids) (w : wellFormed s ≡ true) (x : I.Item) (f : F.itemFormed x 
   kept-long : length (keep (from b) (view s .dcids)) ≡ length (keep (T.atLeast b) l)
   kept-long = sym (length-map (keep (from b) (view s .dcids)) itemOf) ∙ ap length kept-back
 
-  queued-is : queued (itemView x) b (view s) ≡ entries (s .retire) ++ picked T.seqOf (T.below b) l
-  queued-is = ap (λ (r : List ℕ). entries (s .retire) ++ r) (seqs-kept (below b) (T.below b) (λ y. refl) l)
+  queued-is : queued (itemView x) b (view s) ≡ entries (s .«dcids_to_retire») ++ picked T.seqOf (T.below b) l
+  queued-is = ap (λ (r : List ℕ). entries (s .«dcids_to_retire») ++ r) (seqs-kept (below b) (T.below b) (λ y. refl) l)
 
-  pub split : length (keep (T.atLeast b) l) + length (keep (T.below b) l) ≡ s .destination .count
-  split = keep-split (T.atLeast b) l ∙ live-long (s .destination) (destination-well s w)
+  pub split : length (keep (T.atLeast b) l) + length (keep (T.below b) l) ≡ s .dcids .count
+  split = keep-split (T.atLeast b) l ∙ live-long (s .dcids) (destination-well s w)
 
-  queued-long : length (queued (itemView x) b (view s)) ≡ s .retire .count + length (keep (T.below b) l)
+  queued-long : length (queued (itemView x) b (view s)) ≡ s .«dcids_to_retire» .count + length (keep (T.below b) l)
   queued-long =
-      ap length queued-is ∙ length-append (entries (s .retire)) (picked T.seqOf (T.below b) l)
-      ∙ ap₂ _+_ (entries-long (s .retire) (retire-well s w)) (length-map (keep (T.below b) l) T.seqOf)
+      ap length queued-is ∙ length-append (entries (s .«dcids_to_retire»)) (picked T.seqOf (T.below b) l)
+      ∙ ap₂ _+_ (entries-long (s .«dcids_to_retire») (retire-well s w)) (length-map (keep (T.below b) l) T.seqOf)
 
-  pub raise-6 : queueSlots < s .retire .count + length (keep (T.below b) l) → (r : RetiredOut) → r ≡ retiredAt 6 [] s → r ≡ retiredOf (raise (itemView x) b (view s))
+  pub raise-6 : queueSlots < s .«dcids_to_retire» .count + length (keep (T.below b) l) → (r : RetiredOut) → r ≡ retiredAt 6 [] s → r ≡ retiredOf (raise (itemView x) b (view s))
   raise-6 h = keeps s w 6 (raise (itemView x) b (view s)) (raise-full (itemView x) b (view s) (omega (arith, queued-long)))
 
-  module _ (h : s .retire .count + length (keep (T.below b) l) ≤ queueSlots) (k : Table) (ek : k ≡ tableOf (keep (T.atLeast b) l)) (q : Queue) (eq : q ≡ queueOf (entries (s .retire) ++ picked T.seqOf (T.below b) l)) (r : RetiredOut) where
+  module _ (h : s .«dcids_to_retire» .count + length (keep (T.below b) l) ≤ queueSlots) (k : Table) (ek : k ≡ tableOf (keep (T.atLeast b) l)) (q : Queue) (eq : q ≡ queueOf (entries (s .«dcids_to_retire») ++ picked T.seqOf (T.below b) l)) (r : RetiredOut) where
     lowered-is : putLowered k q b s ≡ idsOf (lowered b (view s))
     lowered-is =
         ap₂ (λ (t : Table) (u : Queue). putLowered t u b s) (ek ∙ ap tableOf (sym kept-back)) (eq ∙ ap queueOf (sym queued-is))
@@ -119,17 +120,17 @@ module _ (s : Ids) (w : wellFormed s ≡ true) (x : I.Item) (f : F.itemFormed x 
     count-k : k .count ≡ length (keep (from b) (view s .dcids))
     count-k = ap (λ (z : Table). z .count) ek ∙ sym kept-long
 
-    pub raise-4 : retireFactor * s .dlimit < q .count → r ≡ retiredAt 4 [] (putLowered k q b s) → r ≡ retiredOf (raise (itemView x) b (view s))
+    pub raise-4 : retireFactor * s .«dcid_limit» < q .count → r ≡ retiredAt 4 [] (putLowered k q b s) → r ≡ retiredOf (raise (itemView x) b (view s))
     raise-4 n y = y ∙ ap (retiredAt 4 []) lowered-is ∙ sym (ap retiredOf (raise-many (itemView x) b (view s) (omega (arith, queued-long)) (omega (arith, n, count-q))))
 
-    module _ (n : q .count ≤ retireFactor * s .dlimit) where
+    module _ (n : q .count ≤ retireFactor * s .«dcid_limit») where
       on : raise (itemView x) b (view s) ≡ append (itemView x) (pairs (keep (below b) (view s .dcids))) (lowered b (view s))
       on = raise-on (itemView x) b (view s) (omega (arith, queued-long)) (omega (arith, n, count-q))
 
-      pub raise-3 : 2 * s .dlimit - 1 ≤ k .count → r ≡ retiredAt 3 [] (putLowered k q b s) → r ≡ retiredOf (raise (itemView x) b (view s))
+      pub raise-3 : 2 * s .«dcid_limit» - 1 ≤ k .count → r ≡ retiredAt 3 [] (putLowered k q b s) → r ≡ retiredOf (raise (itemView x) b (view s))
       raise-3 c y = y ∙ ap (retiredAt 3 []) lowered-is ∙ sym (ap retiredOf (on ∙ append-full (itemView x) (pairs (keep (below b) (view s .dcids))) (lowered b (view s)) (omega (arith, c, count-k))))
 
-      pub raise-0 : k .count < 2 * s .dlimit - 1 → (t : Table) → t ≡ tableOf (live k ++ (x ∷ [])) → r ≡ retiredAt 0 (picked T.pairOf (T.lowOnPath b) l) (putLowered t q b s) → r ≡ retiredOf (raise (itemView x) b (view s))
+      pub raise-0 : k .count < 2 * s .«dcid_limit» - 1 → (t : Table) → t ≡ tableOf (live k ++ (x ∷ [])) → r ≡ retiredAt 0 (picked T.pairOf (T.lowOnPath b) l) (putLowered t q b s) → r ≡ retiredOf (raise (itemView x) b (view s))
       raise-0 c t et y =
           let a : List Item = keep (from b) (view s .dcids) in
           let e : t ≡ tableOf (map itemOf (a ++ (itemView x ∷ []))) = et ∙ ap (λ (m : List I.Item). tableOf (m ++ (x ∷ []))) (live-of (keep (T.atLeast b) l) k ek) ∙ ap tableOf (sym (snoc-back a (keep (T.atLeast b) l) (itemView x) x kept-back (item-back x f))) in
@@ -202,18 +203,18 @@ module _ (s : Ids) (w : wellFormed s ≡ true) (cid : ConnectionId) (seq : ℕ) 
   past = clashAt item (addNew (itemView item) b (view s)) (accepted (Retired []) (view s)) (refused 4 (view s)) (view s .dcids)
 
   module _ (r : RetiredOut) where
-    pub add-zero : s .«zero_destination» ≡ true → r ≡ retiredAt 4 [] s → r ≡ retiredOf (addDcid cid seq token b (view s))
+    pub add-zero : s .«zero_length_dcid» ≡ true → r ≡ retiredAt 4 [] s → r ≡ retiredOf (addDcid cid seq token b (view s))
     add-zero z = keeps s w 4 (addDcid cid seq token b (view s)) (ap (λ (t : Bool). cond t (refused 4 (view s)) past) z) r
 
-    module _ (z : s .«zero_destination» ≡ false) (j : ℕ) (e : j ≡ T.firstJudged item (live (s .destination))) where
+    module _ (z : s .«zero_length_dcid» ≡ false) (j : ℕ) (e : j ≡ T.firstJudged item (live (s .dcids))) where
       on-past : addDcid cid seq token b (view s) ≡ past
       on-past = ap (λ (t : Bool). cond t (refused 4 (view s)) past) z
 
       pub add-repeat : j ≡ 1 → r ≡ retiredAt 0 [] s → r ≡ retiredOf (addDcid cid seq token b (view s))
-      add-repeat h q = q ∙ ap (retiredAt 0 []) (sym (view-is s w)) ∙ sym (ap retiredOf (on-past ∙ judged-1 item _ _ _ (live (s .destination)) (sym e ∙ h)))
+      add-repeat h q = q ∙ ap (retiredAt 0 []) (sym (view-is s w)) ∙ sym (ap retiredOf (on-past ∙ judged-1 item _ _ _ (live (s .dcids)) (sym e ∙ h)))
 
       pub add-clash : (j ≡ 0 → ⊥) → (j ≡ 1 → ⊥) → r ≡ retiredAt 4 [] s → r ≡ retiredOf (addDcid cid seq token b (view s))
-      add-clash h k q = q ∙ ap (retiredAt 4 []) (sym (view-is s w)) ∙ sym (ap retiredOf (on-past ∙ judged-2 item _ _ _ (live (s .destination)) (λ y. h (e ∙ y)) (λ y. k (e ∙ y))))
+      add-clash h k q = q ∙ ap (retiredAt 4 []) (sym (view-is s w)) ∙ sym (ap retiredOf (on-past ∙ judged-2 item _ _ _ (live (s .dcids)) (λ y. h (e ∙ y)) (λ y. k (e ∙ y))))
 
       pub add-new : j ≡ 0 → r ≡ retiredOf (addNew (itemView item) b (view s)) → r ≡ retiredOf (addDcid cid seq token b (view s))
-      add-new h q = q ∙ sym (ap retiredOf (on-past ∙ judged-0 item _ _ _ (live (s .destination)) (sym e ∙ h)))
+      add-new h q = q ∙ sym (ap retiredOf (on-past ∙ judged-0 item _ _ _ (live (s .dcids)) (sym e ∙ h)))

@@ -10,62 +10,63 @@ use Rattle.lists.specs.Defs.{has, keep}
 use Rattle.values.specs.Limits.{queueSlots, retireFactor}
 use Rattle.values.specs.declared.used.UsedSeq.{UsedSeq}
 use Rattle.ids_rules.specs.Values.{Item, seqOf, below}
-use Rattle.ids_rules.specs.View.{View, withDcids, withRetire, Out, refused, accepted, Retired}
+use Rattle.ids_rules.specs.View.{View, Out, refused, accepted, Retired}
+use Rattle.ids_rules.specs.With.{withDcids, withDcidsToRetire}
 use Rattle.ids_rules.specs.Steps.{tooMany, append, queueLate, pairs, lowered, raise, addNew}
 
 -- ---- the ways, on any view
 
 module _ (s : ℕ) (v : View) where
   abbrev later : View
-  later = withRetire (v .retire ++ (s ∷ [])) v
+  later = withDcidsToRetire (v .dcidsToRetire ++ (s ∷ [])) v
 
-  pub late-full : queueSlots ≤ length (v .retire) → queueLate s v ≡ refused 6 v
-  late-full h = ap (λ (b : Bool). cond b (refused 6 v) (cond (tooMany later) (refused 4 later) (accepted (Retired []) later))) (le-leb queueSlots (length (v .retire)) h)
+  pub late-full : queueSlots ≤ length (v .dcidsToRetire) → queueLate s v ≡ refused 6 v
+  late-full h = ap (λ (b : Bool). cond b (refused 6 v) (cond (tooMany later) (refused 4 later) (accepted (Retired []) later))) (le-leb queueSlots (length (v .dcidsToRetire)) h)
 
-  module _ (h : length (v .retire) < queueSlots) where
+  module _ (h : length (v .dcidsToRetire) < queueSlots) where
     late-room : queueLate s v ≡ cond (tooMany later) (refused 4 later) (accepted (Retired []) later)
-    late-room = ap (λ (b : Bool). cond b (refused 6 v) (cond (tooMany later) (refused 4 later) (accepted (Retired []) later))) (lt-leb queueSlots (length (v .retire)) h)
+    late-room = ap (λ (b : Bool). cond b (refused 6 v) (cond (tooMany later) (refused 4 later) (accepted (Retired []) later))) (lt-leb queueSlots (length (v .dcidsToRetire)) h)
 
-    pub late-many : retireFactor * v .dlimit < length (v .retire ++ (s ∷ [])) → queueLate s v ≡ refused 4 (withRetire (v .retire ++ (s ∷ [])) v)
-    late-many k = late-room ∙ ap (λ (b : Bool). cond b (refused 4 later) (accepted (Retired []) later)) (lt-ltb (retireFactor * v .dlimit) (length (v .retire ++ (s ∷ []))) k)
+    pub late-many : retireFactor * v .dcidLimit < length (v .dcidsToRetire ++ (s ∷ [])) → queueLate s v ≡ refused 4 (withDcidsToRetire (v .dcidsToRetire ++ (s ∷ [])) v)
+    late-many k = late-room ∙ ap (λ (b : Bool). cond b (refused 4 later) (accepted (Retired []) later)) (lt-ltb (retireFactor * v .dcidLimit) (length (v .dcidsToRetire ++ (s ∷ []))) k)
 
-    pub late-ok : length (v .retire ++ (s ∷ [])) ≤ retireFactor * v .dlimit → queueLate s v ≡ accepted (Retired []) (withRetire (v .retire ++ (s ∷ [])) v)
-    late-ok k = late-room ∙ ap (λ (b : Bool). cond b (refused 4 later) (accepted (Retired []) later)) (le-ltb (retireFactor * v .dlimit) (length (v .retire ++ (s ∷ []))) k)
+    pub late-ok : length (v .dcidsToRetire ++ (s ∷ [])) ≤ retireFactor * v .dcidLimit → queueLate s v ≡ accepted (Retired []) (withDcidsToRetire (v .dcidsToRetire ++ (s ∷ [])) v)
+    late-ok k = late-room ∙ ap (λ (b : Bool). cond b (refused 4 later) (accepted (Retired []) later)) (le-ltb (retireFactor * v .dcidLimit) (length (v .dcidsToRetire ++ (s ∷ []))) k)
 
 module _ (x : Item) (l : List UsedSeq) (v : View) where
-  pub append-full : 2 * v .dlimit - 1 ≤ length (v .dcids) → append x l v ≡ refused 3 v
-  append-full h = ap (λ (b : Bool). cond b (refused 3 v) (accepted (Retired l) (withDcids (v .dcids ++ (x ∷ [])) v))) (le-leb (2 * v .dlimit - 1) (length (v .dcids)) h)
+  pub append-full : 2 * v .dcidLimit - 1 ≤ length (v .dcids) → append x l v ≡ refused 3 v
+  append-full h = ap (λ (b : Bool). cond b (refused 3 v) (accepted (Retired l) (withDcids (v .dcids ++ (x ∷ [])) v))) (le-leb (2 * v .dcidLimit - 1) (length (v .dcids)) h)
 
-  pub append-ok : length (v .dcids) < 2 * v .dlimit - 1 → append x l v ≡ accepted (Retired l) (withDcids (v .dcids ++ (x ∷ [])) v)
-  append-ok h = ap (λ (b : Bool). cond b (refused 3 v) (accepted (Retired l) (withDcids (v .dcids ++ (x ∷ [])) v))) (lt-leb (2 * v .dlimit - 1) (length (v .dcids)) h)
+  pub append-ok : length (v .dcids) < 2 * v .dcidLimit - 1 → append x l v ≡ accepted (Retired l) (withDcids (v .dcids ++ (x ∷ [])) v)
+  append-ok h = ap (λ (b : Bool). cond b (refused 3 v) (accepted (Retired l) (withDcids (v .dcids ++ (x ∷ [])) v))) (lt-leb (2 * v .dcidLimit - 1) (length (v .dcids)) h)
 
 -- ---- a Retire Prior To above the largest
 
 module _ (x : Item) (b : ℕ) (v : View) where
   abbrev pub queued : List ℕ
-  queued = v .retire ++ map seqOf (keep (below b) (v .dcids))
+  queued = v .dcidsToRetire ++ map seqOf (keep (below b) (v .dcids))
 
   abbrev rest : Out
   rest = cond (tooMany (lowered b v)) (refused 4 (lowered b v)) (append x (pairs (keep (below b) (v .dcids))) (lowered b v))
 
-  pub raise-full : queueSlots < length (v .retire ++ map seqOf (keep (below b) (v .dcids))) → raise x b v ≡ refused 6 v
+  pub raise-full : queueSlots < length (v .dcidsToRetire ++ map seqOf (keep (below b) (v .dcids))) → raise x b v ≡ refused 6 v
   raise-full h = ap (λ (t : Bool). cond t (refused 6 v) rest) (lt-ltb queueSlots (length queued) h)
 
-  module _ (h : length (v .retire ++ map seqOf (keep (below b) (v .dcids))) ≤ queueSlots) where
+  module _ (h : length (v .dcidsToRetire ++ map seqOf (keep (below b) (v .dcids))) ≤ queueSlots) where
     raise-room : raise x b v ≡ cond (tooMany (lowered b v)) (refused 4 (lowered b v)) (append x (pairs (keep (below b) (v .dcids))) (lowered b v))
     raise-room = ap (λ (t : Bool). cond t (refused 6 v) rest) (le-ltb queueSlots (length queued) h)
 
-    pub raise-many : retireFactor * v .dlimit < length (v .retire ++ map seqOf (keep (below b) (v .dcids))) → raise x b v ≡ refused 4 (lowered b v)
-    raise-many k = raise-room ∙ ap (λ (t : Bool). cond t (refused 4 (lowered b v)) (append x (pairs (keep (below b) (v .dcids))) (lowered b v))) (lt-ltb (retireFactor * v .dlimit) (length queued) k)
+    pub raise-many : retireFactor * v .dcidLimit < length (v .dcidsToRetire ++ map seqOf (keep (below b) (v .dcids))) → raise x b v ≡ refused 4 (lowered b v)
+    raise-many k = raise-room ∙ ap (λ (t : Bool). cond t (refused 4 (lowered b v)) (append x (pairs (keep (below b) (v .dcids))) (lowered b v))) (lt-ltb (retireFactor * v .dcidLimit) (length queued) k)
 
-    pub raise-on : length (v .retire ++ map seqOf (keep (below b) (v .dcids))) ≤ retireFactor * v .dlimit → raise x b v ≡ append x (pairs (keep (below b) (v .dcids))) (lowered b v)
-    raise-on k = raise-room ∙ ap (λ (t : Bool). cond t (refused 4 (lowered b v)) (append x (pairs (keep (below b) (v .dcids))) (lowered b v))) (le-ltb (retireFactor * v .dlimit) (length queued) k)
+    pub raise-on : length (v .dcidsToRetire ++ map seqOf (keep (below b) (v .dcids))) ≤ retireFactor * v .dcidLimit → raise x b v ≡ append x (pairs (keep (below b) (v .dcids))) (lowered b v)
+    raise-on k = raise-room ∙ ap (λ (t : Bool). cond t (refused 4 (lowered b v)) (append x (pairs (keep (below b) (v .dcids))) (lowered b v))) (le-ltb (retireFactor * v .dcidLimit) (length queued) k)
 
 -- ---- past the first item with equal ID or sequence
 
 module _ (x : Item) (b : ℕ) (v : View) where
   abbrev lateTest : Bool
-  lateTest = ltb (x .seq) (v .largest) && not (has (x .seq) (v .retire))
+  lateTest = ltb (x .seq) (v .largestPeerRetirePriorTo) && not (has (x .seq) (v .dcidsToRetire))
 
   abbrev pub new3 : Bool → Out
   new3 t = cond t (raise x b v) (append x [] v)
@@ -74,6 +75,6 @@ module _ (x : Item) (b : ℕ) (v : View) where
   new2 t u = cond t (queueLate (x .seq) v) (new3 u)
 
   -- addNew, by what its three tests say
-  pub new-is : (p q r : Bool) → ltb (x .seq) b ≡ p → (ltb (x .seq) (v .largest) && not (has (x .seq) (v .retire))) ≡ q → ltb (v .largest) b ≡ r
+  pub new-is : (p q r : Bool) → ltb (x .seq) b ≡ p → (ltb (x .seq) (v .largestPeerRetirePriorTo) && not (has (x .seq) (v .dcidsToRetire))) ≡ q → ltb (v .largestPeerRetirePriorTo) b ≡ r
       → addNew x b v ≡ cond p (refused 4 v) (cond q (queueLate (x .seq) v) (cond r (raise x b v) (append x [] v)))
-  new-is p q r ep eq er = ap (λ (t : Bool). cond t (refused 4 v) (new2 lateTest (ltb (v .largest) b))) ep ∙ ap₂ (λ (t u : Bool). cond p (refused 4 v) (new2 t u)) eq er
+  new-is p q r ep eq er = ap (λ (t : Bool). cond t (refused 4 v) (new2 lateTest (ltb (v .largestPeerRetirePriorTo) b))) ep ∙ ap₂ (λ (t u : Bool). cond p (refused 4 v) (new2 t u)) eq er

@@ -46,10 +46,10 @@ module _ (s : Ids) where
       (p .0, and-both (idFormed cid) _ (q .0) .1, q .1)
 
 -- whether one of two queues has an entry
-pub any-entry : (s : Ids) → wellFormed s ≡ true → (not (eqb (s .retire .count) 0) || not (eqb (s .advertise .count) 0)) ≡ (not (empty (view s .retire)) || not (empty (view s .advertise)))
+pub any-entry : (s : Ids) → wellFormed s ≡ true → (not (eqb (s .«dcids_to_retire» .count) 0) || not (eqb (s .«scids_to_advertise» .count) 0)) ≡ (not (empty (view s .dcidsToRetire)) || not (empty (view s .scidsToAdvertise)))
 any-entry s w =
     ap₂ (λ (m n : ℕ). not (eqb m 0) || not (eqb n 0)) (sym (retire-long s w)) (sym (advertise-long s w))
-    ∙ ap₂ (λ (a b : Bool). not a || not b) (sym (empty-is (view s .retire))) (sym (empty-is (view s .advertise)))
+    ∙ ap₂ (λ (a b : Bool). not a || not b) (sym (empty-is (view s .dcidsToRetire))) (sym (empty-is (view s .scidsToAdvertise)))
 
-pub zero-dcids : (s : Ids) (b : Bool) → s .«zero_destination» ≡ b → countedAt 0 (cond b 0 (length (keep unused (view s .dcids)))) ≡ countedOf (reply (view s) UnusedDcids)
+pub zero-dcids : (s : Ids) (b : Bool) → s .«zero_length_dcid» ≡ b → countedAt 0 (cond b 0 (length (keep unused (view s .dcids)))) ≡ countedOf (reply (view s) UnusedDcids)
 zero-dcids s b e = ap (λ (t : Bool). countedAt 0 (cond t 0 (length (keep unused (view s .dcids))))) (sym e)

@@ -19,7 +19,8 @@ use Rattle.values.specs.declared.token.Token.{Token}
 use Rattle.values.specs.declared.answers.Numbered.{Numbered}
 use Rattle.values.specs.declared.cid.ConnectionId.{ConnectionId}
 use Rattle.ids_rules.specs.Values.{Item, seqOf, hasSeq, from}
-use Rattle.ids_rules.specs.View.{View, withScids, withRpt, Out, refused, accepted, Issued, Freed}
+use Rattle.ids_rules.specs.View.{View, Out, refused, accepted, Issued, Freed}
+use Rattle.ids_rules.specs.With.{withScids, withRetirePriorTo}
 use Rattle.ids_rules.specs.Steps.{lowestFrom, marked, issued, issue, addScid, sole, taken, without, retireScid}
 use Rattle.tables.specs.Table.{zeroItem, live, entries, tableOf, queueOf}
 use Rattle.tables.specs.Laws.{live-long, live-of}
@@ -93,20 +94,20 @@ module _ (s : Ids) (w : wellFormed s ≡ true) where
 
   module _ (rpt : ℕ) (x : I.Item) (advertise : Bool) where
     abbrev raised : View
-    raised = withRpt rpt (view s)
+    raised = withRetirePriorTo rpt (view s)
 
     abbrev entry : Item
-    entry = record { cid = x .cid; seq = s .next; token = tokenView (x .token); path = given (x .«has_path») (x .path) }
+    entry = record { cid = x .cid; seq = s .«next_scid_seq»; token = tokenView (x .token); path = given (x .«has_path») (x .path) }
 
     abbrev pub issueOut : Out
     issueOut = issue (x .cid) (tokenView (x .token)) advertise (given (x .«has_path») (x .path)) (view s) raised
 
     abbrev goes : Bool → Bool → Bool → Out
-    goes p q r = cond p (refused 2 raised) (cond q (refused 3 raised) (cond r (refused 6 (view s)) (accepted (Issued (s .next)) (issued entry advertise raised))))
+    goes p q r = cond p (refused 2 raised) (cond q (refused 3 raised) (cond r (refused 6 (view s)) (accepted (Issued (s .«next_scid_seq»)) (issued entry advertise raised))))
 
-    issue-is : (p q r : Bool) → not (x .token .present) ≡ p → leb (s .capacity) (s .source .count) ≡ q → (advertise && leb queueSlots (s .advertise .count)) ≡ r → issueOut ≡ goes p q r
+    issue-is : (p q r : Bool) → not (x .token .present) ≡ p → leb (s .«scid_capacity») (s .scids .count) ≡ q → (advertise && leb queueSlots (s .«scids_to_advertise» .count)) ≡ r → issueOut ≡ goes p q r
     issue-is p q r ep eq er =
-        ap₂ (λ (a b : Bool). goes a b (advertise && leb queueSlots (length (view s .advertise)))) (ap not (present-given (x .token .present) (x .token .bytes)) ∙ ep) (ap (leb (s .capacity)) (scids-long s w) ∙ eq)
+        ap₂ (λ (a b : Bool). goes a b (advertise && leb queueSlots (length (view s .scidsToAdvertise)))) (ap not (present-given (x .token .present) (x .token .bytes)) ∙ ep) (ap (leb (s .«scid_capacity»)) (scids-long s w) ∙ eq)
         ∙ ap (goes p q) (ap (λ (n : ℕ). advertise && leb queueSlots n) (advertise-long s w) ∙ er)
 
     module _ (r : IssuedOut) where
@@ -117,47 +118,47 @@ module _ (s : Ids) (w : wellFormed s ≡ true) where
       issue-2 p e = raised-at 2 e ∙ sym (ap issuedOf (issue-is true _ _ p refl refl))
 
       module _ (p : not (x .token .present) ≡ false) where
-        pub issue-3 : s .capacity ≤ s .source .count → r ≡ issuedAt 3 0 (putRpt rpt s) → r ≡ issuedOf issueOut
+        pub issue-3 : s .«scid_capacity» ≤ s .scids .count → r ≡ issuedAt 3 0 (putRpt rpt s) → r ≡ issuedOf issueOut
         issue-3 q e = raised-at 3 e ∙ sym (ap issuedOf (issue-is false true _ p (le-leb _ _ q) refl))
 
-        module _ (q : s .source .count < s .capacity) where
-          pub issue-6 : (advertise && leb queueSlots (s .advertise .count)) ≡ true → r ≡ issuedAt 6 0 s → r ≡ issuedOf issueOut
+        module _ (q : s .scids .count < s .«scid_capacity») where
+          pub issue-6 : (advertise && leb queueSlots (s .«scids_to_advertise» .count)) ≡ true → r ≡ issuedAt 6 0 s → r ≡ issuedOf issueOut
           issue-6 t = keeps-issued 6 issueOut (issue-is false false true p (lt-leb _ _ q) t) r
 
-          pub issue-0 : (advertise && leb queueSlots (s .advertise .count)) ≡ false → x .seq ≡ s .next → tokenFormed (x .token) ≡ true → pathFormed (x .«has_path») (x .path) ≡ true
-              → (t : Table) (a : Queue) → t ≡ tableOf (live (s .source) ++ (x ∷ [])) → a ≡ queueOf (marked (s .next) advertise (entries (s .advertise)))
-              → r ≡ issuedAt 0 (s .next) (putIssued t a (s .next + 1) rpt s) → r ≡ issuedOf issueOut
+          pub issue-0 : (advertise && leb queueSlots (s .«scids_to_advertise» .count)) ≡ false → x .seq ≡ s .«next_scid_seq» → tokenFormed (x .token) ≡ true → pathFormed (x .«has_path») (x .path) ≡ true
+              → (t : Table) (a : Queue) → t ≡ tableOf (live (s .scids) ++ (x ∷ [])) → a ≡ queueOf (marked (s .«next_scid_seq») advertise (entries (s .«scids_to_advertise»)))
+              → r ≡ issuedAt 0 (s .«next_scid_seq») (putIssued t a (s .«next_scid_seq» + 1) rpt s) → r ≡ issuedOf issueOut
           issue-0 u sq ft fp t a et ea e =
               let back : itemOf entry ≡ x = λ i. record { seq = sym sq i; path = path-back (x .«has_path») (x .path) fp i; cid = x .cid; token = token-back (x .token) ft i; «has_path» = present-given (x .«has_path») (x .path) i } in
-              let table : t ≡ tableOf (map itemOf (view s .scids ++ (entry ∷ []))) = et ∙ ap tableOf (sym (snoc-back (view s .scids) (live (s .source)) entry x (scids-back s w) back)) in
-              e ∙ ap₂ (λ (y : Table) (z : Queue). issuedAt 0 (s .next) (putIssued y z (s .next + 1) rpt s)) table ea
-              ∙ ap (λ (y : Ids). issuedAt 0 (s .next) (putIssued (tableOf (map itemOf (view s .scids ++ (entry ∷ [])))) (queueOf (marked (s .next) advertise (entries (s .advertise)))) (s .next + 1) rpt y)) (sym (view-is s w))
+              let table : t ≡ tableOf (map itemOf (view s .scids ++ (entry ∷ []))) = et ∙ ap tableOf (sym (snoc-back (view s .scids) (live (s .scids)) entry x (scids-back s w) back)) in
+              e ∙ ap₂ (λ (y : Table) (z : Queue). issuedAt 0 (s .«next_scid_seq») (putIssued y z (s .«next_scid_seq» + 1) rpt s)) table ea
+              ∙ ap (λ (y : Ids). issuedAt 0 (s .«next_scid_seq») (putIssued (tableOf (map itemOf (view s .scids ++ (entry ∷ [])))) (queueOf (marked (s .«next_scid_seq») advertise (entries (s .«scids_to_advertise»)))) (s .«next_scid_seq» + 1) rpt y)) (sym (view-is s w))
               ∙ sym (ap issuedOf (issue-is false false false p (lt-leb _ _ q) u))
 
-  module _ (cid : ConnectionId) (token : Token) (advertise has : Bool) (path : ℕ) (leave : Bool) where
+  module _ (cid : ConnectionId) (token : Token) (advertise has : Bool) (path : ℕ) (retireIfNeeded : Bool) where
     abbrev issueWith : View → Out
     issueWith v = issue cid (tokenView token) advertise (given has path) (view s) v
 
     abbrev pub adds : Out
-    adds = addScid cid (tokenView token) advertise (given has path) leave (view s)
+    adds = addScid cid (tokenView token) advertise (given has path) retireIfNeeded (view s)
 
     abbrev addAt : Bool → Bool → Bool → Bool → Option ℕ → Out
-    addAt p q r t o = cond p (refused 2 (view s)) (cond q (refused 7 (view s)) (cond r (issueWith (view s)) (cond t (refused 3 (view s)) (maybe o (refused 2 (view s)) (λ m. issueWith (withRpt (m + 1) (view s)))))))
+    addAt p q r t o = cond p (refused 2 (view s)) (cond q (refused 7 (view s)) (cond r (issueWith (view s)) (cond t (refused 3 (view s)) (maybe o (refused 2 (view s)) (λ m. issueWith (withRetirePriorTo (m + 1) (view s)))))))
 
     -- by what its tests say
-    pub add-is : (p q r t : Bool) (o : Option ℕ) → s .«zero_source» ≡ p → leb maxSequence (s .next) ≡ q → ltb (s .source .count) (s .slimit) ≡ r → not leave ≡ t
-        → least (picked T.seqOf (T.atLeast (s .rpt)) (live (s .source))) ≡ o → adds ≡ addAt p q r t o
+    pub add-is : (p q r t : Bool) (o : Option ℕ) → s .«zero_length_scid» ≡ p → leb maxSequence (s .«next_scid_seq») ≡ q → ltb (s .scids .count) (s .«scid_limit») ≡ r → not retireIfNeeded ≡ t
+        → least (picked T.seqOf (T.atLeast (s .«retire_prior_to»)) (live (s .scids))) ≡ o → adds ≡ addAt p q r t o
     add-is p q r t o ep eq er et eo =
-        let low = lowestFrom (s .rpt) (view s .scids) in
-        ap₂ (λ (a b : Bool). addAt a b (ltb (length (view s .scids)) (s .slimit)) (not leave) low) ep eq
-        ∙ ap₂ (λ (a b : Bool). addAt p q a b low) (ap (λ (n : ℕ). ltb n (s .slimit)) (scids-long s w) ∙ er) et
-        ∙ ap (addAt p q r t) (lowest-back (s .rpt) (view s .scids) (live (s .source)) (scids-back s w) ∙ eo)
+        let low = lowestFrom (s .«retire_prior_to») (view s .scids) in
+        ap₂ (λ (a b : Bool). addAt a b (ltb (length (view s .scids)) (s .«scid_limit»)) (not retireIfNeeded) low) ep eq
+        ∙ ap₂ (λ (a b : Bool). addAt p q a b low) (ap (λ (n : ℕ). ltb n (s .«scid_limit»)) (scids-long s w) ∙ er) et
+        ∙ ap (addAt p q r t) (lowest-back (s .«retire_prior_to») (view s .scids) (live (s .scids)) (scids-back s w) ∙ eo)
 
 -- ---- a source ID is retired
 
-module _ (s : Ids) (w : wellFormed s ≡ true) (seq i : ℕ) (place : firstWith (T.hasSeq seq) (live (s .source)) ≡ some i) (packet : ConnectionId) where
+module _ (s : Ids) (w : wellFormed s ≡ true) (seq i : ℕ) (place : firstWith (T.hasSeq seq) (live (s .scids)) ≡ some i) (packet : ConnectionId) where
   abbrev y : I.Item
-  y = getD (live (s .source)) i zeroItem
+  y = getD (live (s .scids)) i zeroItem
 
   abbrev out : View
   out = withScids (without seq (view s .scids)) (view s)
@@ -165,38 +166,38 @@ module _ (s : Ids) (w : wellFormed s ≡ true) (seq i : ℕ) (place : firstWith 
   abbrev pub takes : Out
   takes = taken (itemView y) packet out
 
-  rest-back : map itemOf (without seq (view s .scids)) ≡ D.without i (live (s .source))
-  rest-back = without-back (view s .scids) (live (s .source)) (scids-back s w) seq i place (scids-apart s w)
+  rest-back : map itemOf (without seq (view s .scids)) ≡ D.without i (live (s .scids))
+  rest-back = without-back (view s .scids) (live (s .scids)) (scids-back s w) seq i place (scids-apart s w)
 
-  pub place-below : i < s .source .count
-  place-below = place-in (s .source) (source-well s w) (T.hasSeq seq) i place
+  pub place-below : i < s .scids .count
+  place-below = place-in (s .scids) (source-well s w) (T.hasSeq seq) i place
 
-  pub rest-few : length (D.without i (live (s .source))) < tableSlots
-  rest-few = omega (arith, length-without i (live (s .source)) (first-below (T.hasSeq seq) (live (s .source)) i place), live-long (s .source) (source-well s w), source-well s w .few)
+  pub rest-few : length (D.without i (live (s .scids))) < tableSlots
+  rest-few = omega (arith, length-without i (live (s .scids)) (first-below (T.hasSeq seq) (live (s .scids)) i place), live-long (s .scids) (source-well s w), source-well s w .few)
 
   abbrev takeAt : Bool → Option ℕ → Out
-  takeAt b o = cond b (refused 4 out) (maybe o (refused 2 out) (λ m. accepted (Freed (itemView y .path)) (withRpt m out)))
+  takeAt b o = cond b (refused 4 out) (maybe o (refused 2 out) (λ m. accepted (Freed (itemView y .path)) (withRetirePriorTo m out)))
 
-  module _ (t : Table) (et : t ≡ tableOf (D.without i (live (s .source)))) (r : FreedOut) where
+  module _ (t : Table) (et : t ≡ tableOf (D.without i (live (s .scids)))) (r : FreedOut) where
     out-is : putSource t s ≡ idsOf out
     out-is = ap₂ putSource (et ∙ ap tableOf (sym rest-back)) (sym (view-is s w))
 
-    take-is : (b : Bool) (o : Option ℕ) → sameId (y .cid) packet ≡ b → least (picked T.seqOf (T.atLeast (s .rpt)) (live t)) ≡ o → takes ≡ takeAt b o
+    take-is : (b : Bool) (o : Option ℕ) → sameId (y .cid) packet ≡ b → least (picked T.seqOf (T.atLeast (s .«retire_prior_to»)) (live t)) ≡ o → takes ≡ takeAt b o
     take-is b o eb eo =
-        ap₂ takeAt eb (lowest-back (s .rpt) (without seq (view s .scids)) (D.without i (live (s .source))) rest-back
-        ∙ ap (λ (l : List I.Item). least (picked T.seqOf (T.atLeast (s .rpt)) l)) (sym (live-of (D.without i (live (s .source))) t et)) ∙ eo)
+        ap₂ takeAt eb (lowest-back (s .«retire_prior_to») (without seq (view s .scids)) (D.without i (live (s .scids))) rest-back
+        ∙ ap (λ (l : List I.Item). least (picked T.seqOf (T.atLeast (s .«retire_prior_to»)) l)) (sym (live-of (D.without i (live (s .scids))) t et)) ∙ eo)
 
     pub take-4 : sameId (y .cid) packet ≡ true → r ≡ freedAt 4 none (putSource t s) → r ≡ freedOf takes
     take-4 b e = e ∙ ap (freedAt 4 none) out-is ∙ sym (ap freedOf (take-is true _ b refl))
 
     module _ (b : sameId (y .cid) packet ≡ false) where
-      pub take-2 : least (picked T.seqOf (T.atLeast (s .rpt)) (live t)) ≡ none → r ≡ freedAt 2 none (putSource t s) → r ≡ freedOf takes
+      pub take-2 : least (picked T.seqOf (T.atLeast (s .«retire_prior_to»)) (live t)) ≡ none → r ≡ freedAt 2 none (putSource t s) → r ≡ freedOf takes
       take-2 o e = e ∙ ap (freedAt 2 none) out-is ∙ sym (ap freedOf (take-is false none b o))
 
-      pub take-0 : (m : ℕ) → least (picked T.seqOf (T.atLeast (s .rpt)) (live t)) ≡ some m → (x : I.Item) → y ≡ x
+      pub take-0 : (m : ℕ) → least (picked T.seqOf (T.atLeast (s .«retire_prior_to»)) (live t)) ≡ some m → (x : I.Item) → y ≡ x
           → _≡_ {A = FreedOut} r (record { ids = putSourceRpt t m s; answer = record { refusal = 0; present = x .«has_path»; number = x .path } }) → r ≡ freedOf takes
       take-0 m o x ex e =
-          let q = item-parts y (all-at F.itemFormed zeroItem (live (s .source)) i (facts s w .source-items) (first-below (T.hasSeq seq) (live (s .source)) i place)) .2 in
+          let q = item-parts y (all-at F.itemFormed zeroItem (live (s .scids)) i (facts s w .source-items) (first-below (T.hasSeq seq) (live (s .scids)) i place)) .2 in
           let path : _≡_ {A = Numbered} (record { refusal = 0; present = x .«has_path»; number = x .path }) (numberedAt 0 (itemView y .path)) =
           ap {B = Numbered} (λ (z : I.Item). record { refusal = 0; present = z .«has_path»; number = z .path }) (sym ex)
           ∙ (λ j. record { refusal = 0; present = sym (present-given (y .«has_path») (y .path)) j; number = sym (path-back (y .«has_path») (y .path) q) j }) in
@@ -209,29 +210,29 @@ module _ (s : Ids) (w : wellFormed s ≡ true) (seq : ℕ) (packet : ConnectionI
   abbrev retireAt : Bool → Bool → Option Item → Out
   retireAt p q o = cond p (refused 4 (view s)) (cond q (refused 2 (view s)) (maybe o (accepted (Freed none) (view s)) (λ x. taken x packet (withScids (without seq (view s .scids)) (view s)))))
 
-  pub scid-retire-4 : s .next ≤ seq → retires ≡ refused 4 (view s)
+  pub scid-retire-4 : s .«next_scid_seq» ≤ seq → retires ≡ refused 4 (view s)
   scid-retire-4 h = ap (λ (b : Bool). retireAt b (sole seq (view s .scids)) (first (hasSeq seq) (view s .scids))) (le-leb _ _ h)
 
-  module _ (h : seq < s .next) where
+  module _ (h : seq < s .«next_scid_seq») where
     on : (q : Bool) (o : Option Item) → sole seq (view s .scids) ≡ q → first (hasSeq seq) (view s .scids) ≡ o → retires ≡ retireAt false q o
     on q o eq eo = ap (λ (b : Bool). retireAt b (sole seq (view s .scids)) (first (hasSeq seq) (view s .scids))) (lt-leb _ _ h) ∙ ap₂ (retireAt false) eq eo
 
-    sole-is : (b : Bool) → any (hasSeq seq) (view s .scids) ≡ b → sole seq (view s .scids) ≡ (leb (s .source .count) 1 && b)
+    sole-is : (b : Bool) → any (hasSeq seq) (view s .scids) ≡ b → sole seq (view s .scids) ≡ (leb (s .scids .count) 1 && b)
     sole-is b e = ap₂ (λ (n : ℕ) (t : Bool). leb n 1 && t) (scids-long s w) e
 
-    pub scid-retire-none : firstWith (T.hasSeq seq) (live (s .source)) ≡ none → retires ≡ accepted (Freed none) (view s)
+    pub scid-retire-none : firstWith (T.hasSeq seq) (live (s .scids)) ≡ none → retires ≡ accepted (Freed none) (view s)
     scid-retire-none e =
-        on false none (sole-is false (any-none itemView (hasSeq seq) (T.hasSeq seq) (λ x. refl) (live (s .source)) e) ∙ and-false (leb (s .source .count) 1))
-        (first-none itemView (hasSeq seq) (T.hasSeq seq) (λ x. refl) (live (s .source)) e)
+        on false none (sole-is false (any-none itemView (hasSeq seq) (T.hasSeq seq) (λ x. refl) (live (s .scids)) e) ∙ and-false (leb (s .scids .count) 1))
+        (first-none itemView (hasSeq seq) (T.hasSeq seq) (λ x. refl) (live (s .scids)) e)
 
-    module _ (i : ℕ) (place : firstWith (T.hasSeq seq) (live (s .source)) ≡ some i) where
+    module _ (i : ℕ) (place : firstWith (T.hasSeq seq) (live (s .scids)) ≡ some i) where
       there : any (hasSeq seq) (view s .scids) ≡ true
-      there = any-at itemView (hasSeq seq) (T.hasSeq seq) (λ x. refl) (live (s .source)) i place
+      there = any-at itemView (hasSeq seq) (T.hasSeq seq) (λ x. refl) (live (s .scids)) i place
 
-      pub scid-retire-2 : s .source .count ≤ 1 → retires ≡ refused 2 (view s)
+      pub scid-retire-2 : s .scids .count ≤ 1 → retires ≡ refused 2 (view s)
       scid-retire-2 k = on true _ (sole-is true there ∙ ap (λ (b : Bool). b && true) (le-leb _ _ k)) refl
 
-      pub scid-retire-0 : 1 < s .source .count → retires ≡ taken (itemView (getD (live (s .source)) i zeroItem)) packet (withScids (without seq (view s .scids)) (view s))
+      pub scid-retire-0 : 1 < s .scids .count → retires ≡ taken (itemView (getD (live (s .scids)) i zeroItem)) packet (withScids (without seq (view s .scids)) (view s))
       scid-retire-0 k =
-          on false (some (itemView (getD (live (s .source)) i zeroItem))) (sole-is true there ∙ ap (λ (b : Bool). b && true) (lt-leb _ _ k))
-          (first-at itemView (hasSeq seq) (T.hasSeq seq) (λ x. refl) zeroItem (live (s .source)) i place)
+          on false (some (itemView (getD (live (s .scids)) i zeroItem))) (sole-is true there ∙ ap (λ (b : Bool). b && true) (lt-leb _ _ k))
+          (first-at itemView (hasSeq seq) (T.hasSeq seq) (λ x. refl) zeroItem (live (s .scids)) i place)

@@ -37,18 +37,18 @@ itemView x = record { cid = x .cid; seq = x .seq; token = tokenView (x .token); 
 
 abbrev pub view : Ids → View
 view s = record {
-  scids = map itemView (live (s .source));
-  dcids = map itemView (live (s .destination));
-  dlimit = s .dlimit;
-  slimit = s .slimit;
-  scap = s .capacity;
-  zeroScid = s .«zero_source»;
-  zeroDcid = s .«zero_destination»;
-  next = s .next;
-  rpt = s .rpt;
-  largest = s .largest;
-  advertise = entries (s .advertise);
-  retire = entries (s .retire);
+  scids = map itemView (live (s .scids));
+  dcids = map itemView (live (s .dcids));
+  dcidLimit = s .«dcid_limit»;
+  scidLimit = s .«scid_limit»;
+  scidCapacity = s .«scid_capacity»;
+  zeroLengthScid = s .«zero_length_scid»;
+  zeroLengthDcid = s .«zero_length_dcid»;
+  nextScidSeq = s .«next_scid_seq»;
+  retirePriorTo = s .«retire_prior_to»;
+  largestPeerRetirePriorTo = s .«largest_peer_retire_prior_to»;
+  scidsToAdvertise = entries (s .«scids_to_advertise»);
+  dcidsToRetire = entries (s .«dcids_to_retire»);
 }
 
 -- ---- building: what is absent is zero
@@ -65,18 +65,18 @@ itemOf x = record { seq = x .seq; path = pathOf (x .path); cid = x .cid; token =
 
 abbrev pub idsOf : View → Ids
 idsOf v = record {
-  source = tableOf (map itemOf (v .scids));
-  destination = tableOf (map itemOf (v .dcids));
-  capacity = v .scap;
-  dlimit = v .dlimit;
-  slimit = v .slimit;
-  «zero_source» = v .zeroScid;
-  «zero_destination» = v .zeroDcid;
-  next = v .next;
-  rpt = v .rpt;
-  largest = v .largest;
-  advertise = queueOf (v .advertise);
-  retire = queueOf (v .retire);
+  scids = tableOf (map itemOf (v .scids));
+  dcids = tableOf (map itemOf (v .dcids));
+  «scid_capacity» = v .scidCapacity;
+  «dcid_limit» = v .dcidLimit;
+  «scid_limit» = v .scidLimit;
+  «zero_length_scid» = v .zeroLengthScid;
+  «zero_length_dcid» = v .zeroLengthDcid;
+  «next_scid_seq» = v .nextScidSeq;
+  «retire_prior_to» = v .retirePriorTo;
+  «largest_peer_retire_prior_to» = v .largestPeerRetirePriorTo;
+  «scids_to_advertise» = queueOf (v .scidsToAdvertise);
+  «dcids_to_retire» = queueOf (v .dcidsToRetire);
 }
 
 -- the form of a path that is given with a flag: what is absent is 0
@@ -91,7 +91,7 @@ pub record Sought : Type 0 where
 
 pub record Fields : Type 0 where
   pub seq : ℕ
-  pub rpt : ℕ
+  pub retirePriorTo : ℕ
   pub cid : ConnectionId
   pub token : List ℕ
 
@@ -118,7 +118,7 @@ partsOf (Found s p) = partsAt 0 none false [] none (some (record { seq = s; path
 partsOf (Number n) = partsAt n none false [] none none none
 partsOf (Perhaps n) = partsAt 0 n false [] none none none
 partsOf (Flag b) = partsAt 0 none b [] none none none
-partsOf (Frame s r c t) = partsAt 0 none false [] none none (some (record { seq = s; rpt = r; cid = c; token = t }))
+partsOf (Frame s r c t) = partsAt 0 none false [] none none (some (record { seq = s; retirePriorTo = r; cid = c; token = t }))
 
 -- ---- the answers of calls that read, by refusal and part; beside a refusal every part is nothing
 
@@ -140,7 +140,7 @@ foundAt refusal (some f) = record { refusal = refusal; present = true; «has_pat
 
 abbrev pub frameAt : ℕ → Option Fields → FrameAnswer
 frameAt refusal none = record { refusal = refusal; seq = 0; «retire_prior_to» = 0; cid = zeroId; token = replicate tokenLen 0 }
-frameAt refusal (some f) = record { refusal = refusal; seq = f .seq; «retire_prior_to» = f .rpt; cid = f .cid; token = f .token }
+frameAt refusal (some f) = record { refusal = refusal; seq = f .seq; «retire_prior_to» = f .retirePriorTo; cid = f .cid; token = f .token }
 
 abbrev pub countedOf : Reply → Counted
 countedOf r = countedAt (r .refusal) (partsOf (r .answer) .number)
@@ -223,5 +223,5 @@ abbrev pub frameCall : Ids → Query → FrameAnswer
 frameCall s q = checked s true (frameOf (reply (view s) q)) (frameAt 1 none)
 
 -- a refused fresh gives the all-zero state
-abbrev pub freshIds : (dlimit : ℕ) → ConnectionId → (path : ℕ) → Token → DoneOut
-freshIds dlimit cid path token = doneOf (cond (tokenFormed token) (freshCall dlimit cid path (tokenView token)) (refused 1 zeroView))
+abbrev pub freshIds : (dcidLimit : ℕ) → ConnectionId → (path : ℕ) → Token → DoneOut
+freshIds dcidLimit cid path token = doneOf (cond (tokenFormed token) (freshCall dcidLimit cid path (tokenView token)) (refused 1 zeroView))

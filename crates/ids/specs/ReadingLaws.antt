@@ -91,78 +91,78 @@ pub view-of : (v : View) → view (idsOf v) ≡ v
 view-of v = λ i. record {
   scids = table-round (v .scids) i;
   dcids = table-round (v .dcids) i;
-  dlimit = v .dlimit;
-  slimit = v .slimit;
-  scap = v .scap;
-  zeroScid = v .zeroScid;
-  zeroDcid = v .zeroDcid;
-  next = v .next;
-  rpt = v .rpt;
-  largest = v .largest;
-  advertise = take-padded queueSlots 0 (v .advertise) i;
-  retire = take-padded queueSlots 0 (v .retire) i;
+  dcidLimit = v .dcidLimit;
+  scidLimit = v .scidLimit;
+  scidCapacity = v .scidCapacity;
+  zeroLengthScid = v .zeroLengthScid;
+  zeroLengthDcid = v .zeroLengthDcid;
+  nextScidSeq = v .nextScidSeq;
+  retirePriorTo = v .retirePriorTo;
+  largestPeerRetirePriorTo = v .largestPeerRetirePriorTo;
+  scidsToAdvertise = take-padded queueSlots 0 (v .scidsToAdvertise) i;
+  dcidsToRetire = take-padded queueSlots 0 (v .dcidsToRetire) i;
 }
 
 module _ (s : Ids) (w : wellFormed s ≡ true) where
   f : Facts s
   f = facts s w
 
-  pub source-well : TableWell (s .source)
+  pub source-well : TableWell (s .scids)
   source-well = record { few = omega (arith, f .bounds .sources-few, f .bounds .capacity-most); is = f .source-is }
 
-  pub destination-well : TableWell (s .destination)
-  destination-well = record { few = omega (arith, f .bounds .destinations-few, f .bounds .dlimit-most); is = f .destination-is }
+  pub destination-well : TableWell (s .dcids)
+  destination-well = record { few = omega (arith, f .bounds .destinations-few, f .bounds .dcid-limit-most); is = f .destination-is }
 
-  pub advertise-well : QueueWell (s .advertise)
+  pub advertise-well : QueueWell (s .«scids_to_advertise»)
   advertise-well = record { few = f .bounds .advertised-few; is = f .advertise-is }
 
-  pub retire-well : QueueWell (s .retire)
+  pub retire-well : QueueWell (s .«dcids_to_retire»)
   retire-well = record { few = f .bounds .retired-few; is = f .retire-is }
 
-  pub scids-back : map itemOf (view s .scids) ≡ live (s .source)
-  scids-back = items-back (live (s .source)) (f .source-items)
+  pub scids-back : map itemOf (view s .scids) ≡ live (s .scids)
+  scids-back = items-back (live (s .scids)) (f .source-items)
 
-  pub dcids-back : map itemOf (view s .dcids) ≡ live (s .destination)
-  dcids-back = items-back (live (s .destination)) (f .destination-items)
+  pub dcids-back : map itemOf (view s .dcids) ≡ live (s .dcids)
+  dcids-back = items-back (live (s .dcids)) (f .destination-items)
 
-  pub scids-long : length (view s .scids) ≡ s .source .count
-  scids-long = length-map (live (s .source)) itemView ∙ live-long (s .source) source-well
+  pub scids-long : length (view s .scids) ≡ s .scids .count
+  scids-long = length-map (live (s .scids)) itemView ∙ live-long (s .scids) source-well
 
-  pub dcids-long : length (view s .dcids) ≡ s .destination .count
-  dcids-long = length-map (live (s .destination)) itemView ∙ live-long (s .destination) destination-well
+  pub dcids-long : length (view s .dcids) ≡ s .dcids .count
+  dcids-long = length-map (live (s .dcids)) itemView ∙ live-long (s .dcids) destination-well
 
-  pub advertise-long : length (view s .advertise) ≡ s .advertise .count
-  advertise-long = entries-long (s .advertise) advertise-well
+  pub advertise-long : length (view s .scidsToAdvertise) ≡ s .«scids_to_advertise» .count
+  advertise-long = entries-long (s .«scids_to_advertise») advertise-well
 
-  pub retire-long : length (view s .retire) ≡ s .retire .count
-  retire-long = entries-long (s .retire) retire-well
+  pub retire-long : length (view s .dcidsToRetire) ≡ s .«dcids_to_retire» .count
+  retire-long = entries-long (s .«dcids_to_retire») retire-well
 
-  source-back : tableOf (map itemOf (view s .scids)) ≡ s .source
-  source-back = ap tableOf scids-back ∙ table-is (s .source) source-well
+  source-back : tableOf (map itemOf (view s .scids)) ≡ s .scids
+  source-back = ap tableOf scids-back ∙ table-is (s .scids) source-well
 
-  destination-back : tableOf (map itemOf (view s .dcids)) ≡ s .destination
-  destination-back = ap tableOf dcids-back ∙ table-is (s .destination) destination-well
+  destination-back : tableOf (map itemOf (view s .dcids)) ≡ s .dcids
+  destination-back = ap tableOf dcids-back ∙ table-is (s .dcids) destination-well
 
-  advertise-back : queueOf (entries (s .advertise)) ≡ s .advertise
-  advertise-back = queue-is (s .advertise) advertise-well
+  advertise-back : queueOf (entries (s .«scids_to_advertise»)) ≡ s .«scids_to_advertise»
+  advertise-back = queue-is (s .«scids_to_advertise») advertise-well
 
-  retire-back : queueOf (entries (s .retire)) ≡ s .retire
-  retire-back = queue-is (s .retire) retire-well
+  retire-back : queueOf (entries (s .«dcids_to_retire»)) ≡ s .«dcids_to_retire»
+  retire-back = queue-is (s .«dcids_to_retire») retire-well
 
   pub view-is : idsOf (view s) ≡ s
   view-is = λ i. record {
-    source = source-back i;
-    destination = destination-back i;
-    capacity = s .capacity;
-    dlimit = s .dlimit;
-    slimit = s .slimit;
-    «zero_source» = s .«zero_source»;
-    «zero_destination» = s .«zero_destination»;
-    next = s .next;
-    rpt = s .rpt;
-    largest = s .largest;
-    advertise = advertise-back i;
-    retire = retire-back i;
+    scids = source-back i;
+    dcids = destination-back i;
+    «scid_capacity» = s .«scid_capacity»;
+    «dcid_limit» = s .«dcid_limit»;
+    «scid_limit» = s .«scid_limit»;
+    «zero_length_scid» = s .«zero_length_scid»;
+    «zero_length_dcid» = s .«zero_length_dcid»;
+    «next_scid_seq» = s .«next_scid_seq»;
+    «retire_prior_to» = s .«retire_prior_to»;
+    «largest_peer_retire_prior_to» = s .«largest_peer_retire_prior_to»;
+    «scids_to_advertise» = advertise-back i;
+    «dcids_to_retire» = retire-back i;
   }
 
 -- ---- what a call gives, read again, is the outcome's view

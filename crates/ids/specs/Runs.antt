@@ -45,7 +45,7 @@ use Rattle.ids_rules.specs.Calls as C
 pub data CodeCall : Type 0 where
   SetInitialDcid : ConnectionId → (token : Token) (has : Bool) (path : ℕ) → CodeCall
   SetScidLimit : (n : ℕ) → CodeCall
-  AddScid : ConnectionId → (token : Token) (advertise has : Bool) (path : ℕ) (leave : Bool) → CodeCall
+  AddScid : ConnectionId → (token : Token) (advertise has : Bool) (path : ℕ) (retireIfNeeded : Bool) → CodeCall
   RetireScid : (seq : ℕ) → (packet : ConnectionId) → CodeCall
   AddDcid : ConnectionId → (seq : ℕ) → (token : ResetToken) → (retirePriorTo : ℕ) → CodeCall
   MarkScidUsed : (seq path : ℕ) → CodeCall
@@ -57,14 +57,14 @@ pub data CodeCall : Type 0 where
 
 -- what a fresh call that is not refused gives
 pub data Started : Ids → Type 0 where
-  started : (dlimit : ℕ) (cid : ConnectionId) (path : ℕ) (token : Token)
-      → freshIds dlimit cid path token .answer .refusal ≡ 0 → Started (freshIds dlimit cid path token .ids)
+  started : (dcidLimit : ℕ) (cid : ConnectionId) (path : ℕ) (token : Token)
+      → freshIds dcidLimit cid path token .answer .refusal ≡ 0 → Started (freshIds dcidLimit cid path token .ids)
 
 -- the arguments have their form, as the contract has it
 abbrev pub argsFormed : CodeCall → Bool
 argsFormed (SetInitialDcid cid token has path) = idFormed cid && tokenFormed token && pathFormed has path
 argsFormed (SetScidLimit n) = true
-argsFormed (AddScid cid token advertise has path leave) = idFormed cid && tokenFormed token && pathFormed has path
+argsFormed (AddScid cid token advertise has path retireIfNeeded) = idFormed cid && tokenFormed token && pathFormed has path
 argsFormed (RetireScid seq packet) = idFormed packet
 argsFormed (AddDcid cid seq token b) = idFormed cid
 argsFormed (MarkScidUsed seq path) = true
@@ -108,7 +108,7 @@ asked s (DcidAt place) = AnItem (itemCall s (DcidAt place))
 abbrev pub result : Ids → CodeCall → Result
 result s (SetInitialDcid cid token has path) = Done (doneCall s (idFormed cid && tokenFormed token && pathFormed has path) (C.SetInitialDcid cid (tokenView token) (given has path)))
 result s (SetScidLimit n) = Done (doneCall s true (C.SetScidLimit n))
-result s (AddScid cid token advertise has path leave) = Issued (issuedCall s (idFormed cid && tokenFormed token && pathFormed has path) (C.AddScid cid (tokenView token) advertise (given has path) leave))
+result s (AddScid cid token advertise has path retireIfNeeded) = Issued (issuedCall s (idFormed cid && tokenFormed token && pathFormed has path) (C.AddScid cid (tokenView token) advertise (given has path) retireIfNeeded))
 result s (RetireScid seq packet) = Freed (freedCall s (idFormed packet) (C.RetireScid seq packet))
 result s (AddDcid cid seq token b) = Retired (retiredCall s (idFormed cid) (C.AddDcid cid seq (token .bytes) b))
 result s (MarkScidUsed seq path) = Done (doneCall s true (C.MarkScidUsed seq path))
@@ -157,7 +157,7 @@ calls s (c ∷ cs) = calls (made s c) cs
 abbrev pub viewCall : CodeCall → Call
 viewCall (SetInitialDcid cid token has path) = C.SetInitialDcid cid (tokenView token) (given has path)
 viewCall (SetScidLimit n) = C.SetScidLimit n
-viewCall (AddScid cid token advertise has path leave) = C.AddScid cid (tokenView token) advertise (given has path) leave
+viewCall (AddScid cid token advertise has path retireIfNeeded) = C.AddScid cid (tokenView token) advertise (given has path) retireIfNeeded
 viewCall (RetireScid seq packet) = C.RetireScid seq packet
 viewCall (AddDcid cid seq token b) = C.AddDcid cid seq (token .bytes) b
 viewCall (MarkScidUsed seq path) = C.MarkScidUsed seq path
@@ -204,7 +204,7 @@ askedShape (DcidAt place) = Items
 abbrev pub shape : CodeCall → Shape
 shape (SetInitialDcid cid token has path) = ADone
 shape (SetScidLimit n) = ADone
-shape (AddScid cid token advertise has path leave) = AnIssue
+shape (AddScid cid token advertise has path retireIfNeeded) = AnIssue
 shape (RetireScid seq packet) = AFreed
 shape (AddDcid cid seq token b) = ARetired
 shape (MarkScidUsed seq path) = ADone
@@ -280,7 +280,7 @@ KeepsWell = (s : Ids) (c : CodeCall) → wellFormed s ≡ true → wellFormed (m
 
 -- fresh is refused, with 1, exactly if an argument has not its form
 abbrev pub FreshOne : Type 0
-FreshOne = (dlimit : ℕ) (cid : ConnectionId) (path : ℕ) (token : Token) → freshIds dlimit cid path token .answer .refusal ≡ cond (tokenFormed token && freshFormed dlimit cid) 0 1
+FreshOne = (dcidLimit : ℕ) (cid : ConnectionId) (path : ℕ) (token : Token) → freshIds dcidLimit cid path token .answer .refusal ≡ cond (tokenFormed token && freshFormed dcidLimit cid) 0 1
 
 abbrev pub FreshWell : Type 0
 FreshWell = (s : Ids) → Started s → wellFormed s ≡ true
@@ -341,7 +341,7 @@ history s (c ∷ cs) = record { call = c; returned = result s c } ∷ history (m
 abbrev pub retires : CodeCall → Option ℕ
 retires (SetInitialDcid cid token has path) = none
 retires (SetScidLimit n) = none
-retires (AddScid cid token advertise has path leave) = none
+retires (AddScid cid token advertise has path retireIfNeeded) = none
 retires (RetireScid seq packet) = some seq
 retires (AddDcid cid seq token b) = none
 retires (MarkScidUsed seq path) = none

@@ -61,7 +61,7 @@ issued = refl
 pub left : (live (0 ∷ []) (history state told) ≡ 1 ∷ 3 ∷ 4 ∷ []) × (sourceSeqs (calls state told) ≡ 1 ∷ 3 ∷ 4 ∷ [])
 left = (refl, refl)
 
-pub queues : (view (calls state told) .advertise ≡ 2 ∷ 3 ∷ 4 ∷ []) × (view (calls state told) .retire ≡ 0 ∷ 9 ∷ [])
+pub queues : (view (calls state told) .scidsToAdvertise ≡ 2 ∷ 3 ∷ 4 ∷ []) × (view (calls state told) .dcidsToRetire ≡ 0 ∷ 9 ∷ [])
 queues = (refl, refl)
 
 -- as the promises say

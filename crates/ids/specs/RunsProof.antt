@@ -44,7 +44,7 @@ use Rattle.ids_rules.specs.Promise as P
 args-call : (c : CodeCall) → argsFormed c ≡ true → callFormed (viewCall c) ≡ true
 args-call (SetInitialDcid cid token has path) e = and-both (idFormed cid) _ (and-both (idFormed cid && tokenFormed token) _ e .0) .0
 args-call (SetScidLimit n) e = refl
-args-call (AddScid cid token advertise has path leave) e = and-both (idFormed cid) _ (and-both (idFormed cid && tokenFormed token) _ e .0) .0
+args-call (AddScid cid token advertise has path retireIfNeeded) e = and-both (idFormed cid) _ (and-both (idFormed cid && tokenFormed token) _ e .0) .0
 args-call (RetireScid seq packet) e = e
 args-call (AddDcid cid seq token b) e = e
 args-call (MarkScidUsed seq path) e = refl
@@ -87,7 +87,7 @@ asked-is s (DcidAt place) = refl
 result-is : (s : Ids) (c : CodeCall) → result s c ≡ contract (shape c) s (argsFormed c) (viewCall c)
 result-is s (SetInitialDcid cid token has path) = refl
 result-is s (SetScidLimit n) = refl
-result-is s (AddScid cid token advertise has path leave) = refl
+result-is s (AddScid cid token advertise has path retireIfNeeded) = refl
 result-is s (RetireScid seq packet) = refl
 result-is s (AddDcid cid seq token b) = refl
 result-is s (MarkScidUsed seq path) = refl
@@ -209,7 +209,7 @@ module _ (s : Ids) (w : wellFormed s ≡ true) where
   pub made-is : (c : CodeCall) → argsFormed c ≡ true → made s c ≡ idsOf (after (view s) (viewCall c))
   made-is (SetInitialDcid cid token has path) e = ap (stateIn s) (applies s (SetInitialDcid cid token has path) w e)
   made-is (SetScidLimit n) e = ap (stateIn s) (applies s (SetScidLimit n) w e)
-  made-is (AddScid cid token advertise has path leave) e = ap (stateIn s) (applies s (AddScid cid token advertise has path leave) w e)
+  made-is (AddScid cid token advertise has path retireIfNeeded) e = ap (stateIn s) (applies s (AddScid cid token advertise has path retireIfNeeded) w e)
   made-is (RetireScid seq packet) e = ap (stateIn s) (applies s (RetireScid seq packet) w e)
   made-is (AddDcid cid seq token b) e = ap (stateIn s) (applies s (AddDcid cid seq token b) w e)
   made-is (MarkScidUsed seq path) e = ap (stateIn s) (applies s (MarkScidUsed seq path) w e)
@@ -283,9 +283,9 @@ complete (C.SetInitialDcid cid token path) = record {
   formed = given-one cid token path;
 }
 complete (C.SetScidLimit n) = published (SetScidLimit n) refl
-complete (C.AddScid cid token advertise path leave) = record {
-  call = AddScid cid (tokenOf token) advertise (present path) (pathOf path) leave;
-  is = ap₂ (λ (t : Option (List ℕ)) (p : Option ℕ). C.AddScid cid t advertise p leave) (read-token token) (read-path path);
+complete (C.AddScid cid token advertise path retireIfNeeded) = record {
+  call = AddScid cid (tokenOf token) advertise (present path) (pathOf path) retireIfNeeded;
+  is = ap₂ (λ (t : Option (List ℕ)) (p : Option ℕ). C.AddScid cid t advertise p retireIfNeeded) (read-token token) (read-path path);
   formed = given-one cid token path;
 }
 complete (C.RetireScid s packet) = published (RetireScid s packet) refl
@@ -299,27 +299,27 @@ complete (C.Ask q) = published (Reads q) refl
 -- ---- fresh
 
 pub fresh-one : FreshOne
-fresh-one dlimit cid path token = test (tokenFormed token) (freshFormed dlimit cid)
+fresh-one dcidLimit cid path token = test (tokenFormed token) (freshFormed dcidLimit cid)
   where
-    test : (t f : Bool) → cond t (cond f (accepted Nothing (fresh dlimit cid path (tokenView token))) (refused 1 zeroView)) (refused 1 zeroView) .refusal ≡ cond (t && f) 0 1
+    test : (t f : Bool) → cond t (cond f (accepted Nothing (fresh dcidLimit cid path (tokenView token))) (refused 1 zeroView)) (refused 1 zeroView) .refusal ≡ cond (t && f) 0 1
     test true true = refl
     test true false = refl
     test false f = refl
 
 pub is-start : IsStart
-is-start s (started dlimit cid path token e) = test (tokenFormed token) e
+is-start s (started dcidLimit cid path token e) = test (tokenFormed token) e
   where
-    test : (t : Bool) → doneOf (cond t (freshCall dlimit cid path (tokenView token)) (refused 1 zeroView)) .answer .refusal ≡ 0
-        → Starts (view (doneOf (cond t (freshCall dlimit cid path (tokenView token)) (refused 1 zeroView)) .ids))
-    test true e = subst Starts (sym (view-of (freshCall dlimit cid path (tokenView token) .view))) (starts dlimit cid path (tokenView token) e)
+    test : (t : Bool) → doneOf (cond t (freshCall dcidLimit cid path (tokenView token)) (refused 1 zeroView)) .answer .refusal ≡ 0
+        → Starts (view (doneOf (cond t (freshCall dcidLimit cid path (tokenView token)) (refused 1 zeroView)) .ids))
+    test true e = subst Starts (sym (view-of (freshCall dcidLimit cid path (tokenView token) .view))) (starts dcidLimit cid path (tokenView token) e)
     test false e = absurd (omega arith)
 
 pub fresh-well : FreshWell
-fresh-well s (started dlimit cid path token e) = test (tokenFormed token) e
+fresh-well s (started dcidLimit cid path token e) = test (tokenFormed token) e
   where
-    test : (t : Bool) → doneOf (cond t (freshCall dlimit cid path (tokenView token)) (refused 1 zeroView)) .answer .refusal ≡ 0
-        → wellFormed (doneOf (cond t (freshCall dlimit cid path (tokenView token)) (refused 1 zeroView)) .ids) ≡ true
-    test true e = state-well (freshCall dlimit cid path (tokenView token) .view) (promised .freshWell (freshCall dlimit cid path (tokenView token) .view) (starts dlimit cid path (tokenView token) e))
+    test : (t : Bool) → doneOf (cond t (freshCall dcidLimit cid path (tokenView token)) (refused 1 zeroView)) .answer .refusal ≡ 0
+        → wellFormed (doneOf (cond t (freshCall dcidLimit cid path (tokenView token)) (refused 1 zeroView)) .ids) ≡ true
+    test true e = state-well (freshCall dcidLimit cid path (tokenView token) .view) (promised .freshWell (freshCall dcidLimit cid path (tokenView token) .view) (starts dcidLimit cid path (tokenView token) e))
     test false e = absurd (omega arith)
 
 -- ---- runs
@@ -399,13 +399,13 @@ add-issued (issues-one r t n p l a) = refl
 step-issued : (v : View) (c : CodeCall) → issuedIn (resultAs c (step v (viewCall c))) ≡ issuedBy (step v (viewCall c) .answer)
 step-issued v (SetInitialDcid cid token has path) = refl
 step-issued v (SetScidLimit n) = refl
-step-issued v (AddScid cid token advertise has path leave) = add-issued (add-scid-ends cid (tokenView token) advertise (given has path) v leave)
+step-issued v (AddScid cid token advertise has path retireIfNeeded) = add-issued (add-scid-ends cid (tokenView token) advertise (given has path) v retireIfNeeded)
 step-issued v (RetireScid seq packet) = sym (retire-quiet (retire-scid-ends seq packet v))
 step-issued v (AddDcid cid seq token b) = sym (dcid-quiet (add-dcid-ends cid seq (token .bytes) b v))
 step-issued v (MarkScidUsed seq path) = sym (decided Quiet (any (hasSeq seq) (v .scids)) (λ e. refl) (λ e. refl))
 step-issued v (MarkDcidUsed seq path) = sym (decided Quiet (any (hasSeq seq) (v .dcids)) (λ e. refl) (λ e. refl))
-step-issued v (MarkScidToAdvertise seq on) = sym (decided Quiet (on && leb queueSlots (length (v .advertise))) (λ e. refl) (λ e. refl))
-step-issued v (MarkDcidToRetire seq on) = sym (decided Quiet (on && leb queueSlots (length (v .retire))) (λ e. refl) (λ e. refl))
+step-issued v (MarkScidToAdvertise seq on) = sym (decided Quiet (on && leb queueSlots (length (v .scidsToAdvertise))) (λ e. refl) (λ e. refl))
+step-issued v (MarkDcidToRetire seq on) = sym (decided Quiet (on && leb queueSlots (length (v .dcidsToRetire))) (λ e. refl) (λ e. refl))
 step-issued v (Reads q) = as-quiet q ∙ sym (reply-quiet v q)
   where
     as-quiet : (q : Query) → issuedIn (shaped (askedShape q) (step v (C.Ask q))) ≡ []
@@ -451,7 +451,7 @@ without-gap s f cs = subst (λ (l : List ℕ). l ≡ counted 1 (length l)) (sym 
 retires-is : (c : CodeCall) → P.retires (viewCall c) ≡ retires c
 retires-is (SetInitialDcid cid token has path) = refl
 retires-is (SetScidLimit n) = refl
-retires-is (AddScid cid token advertise has path leave) = refl
+retires-is (AddScid cid token advertise has path retireIfNeeded) = refl
 retires-is (RetireScid seq packet) = refl
 retires-is (AddDcid cid seq token b) = refl
 retires-is (MarkScidUsed seq path) = refl

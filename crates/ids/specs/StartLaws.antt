@@ -30,25 +30,25 @@ pub initial-0 : (s : Ids) → wellFormed s ≡ true → (cid : ConnectionId) (to
     → doneAt 0 (putInitial t (emptyId cid) s) ≡ doneOf (setInitialDcid cid (tokenView token) (given has path) (view s))
 initial-0 s w cid token has path t e = ap₂ (λ (u : Table) (v : Ids). doneAt 0 (putInitial u (emptyId cid) v)) e (sym (view-is s w))
 
-pub limit-0 : (s : Ids) → wellFormed s ≡ true → (n l c : ℕ) → l ≡ max minScidLimit (min n maxCidsCount) → c ≡ max (s .capacity) (2 * l - 1) → doneAt 0 (putLimit l c s) ≡ doneOf (setScidLimit n (view s))
+pub limit-0 : (s : Ids) → wellFormed s ≡ true → (n l c : ℕ) → l ≡ max minScidLimit (min n maxCidsCount) → c ≡ max (s .«scid_capacity») (2 * l - 1) → doneAt 0 (putLimit l c s) ≡ doneOf (setScidLimit n (view s))
 limit-0 s w n l c e q =
     ap₂ (λ (k : ℕ) (u : Ids). doneAt 0 (putLimit l k u)) q (sym (view-is s w))
-    ∙ ap (λ (k : ℕ). doneAt 0 (putLimit k (max (s .capacity) (2 * k - 1)) (idsOf (view s)))) e
+    ∙ ap (λ (k : ℕ). doneAt 0 (putLimit k (max (s .«scid_capacity») (2 * k - 1)) (idsOf (view s)))) e
 
 abbrev freshAt : Bool → Bool → Out → Out
 freshAt t f o = cond t (cond f o (refused 1 zeroView)) (refused 1 zeroView)
 
 -- both tests pass, or one does not
-pub fresh-0 : (dlimit : ℕ) (cid : ConnectionId) (path : ℕ) (token : Token) → (tokenFormed token && freshFormed dlimit cid) ≡ true → (s : Ids) → s ≡ idsOf (fresh dlimit cid path (tokenView token))
-    → doneAt 0 s ≡ freshIds dlimit cid path token
-fresh-0 dlimit cid path token e s q =
-    let w = and-both (tokenFormed token) (freshFormed dlimit cid) e in
-    ap (doneAt 0) q ∙ sym (ap₂ (λ (t f : Bool). doneOf (freshAt t f (accepted Nothing (fresh dlimit cid path (tokenView token))))) (w .0) (w .1))
+pub fresh-0 : (dcidLimit : ℕ) (cid : ConnectionId) (path : ℕ) (token : Token) → (tokenFormed token && freshFormed dcidLimit cid) ≡ true → (s : Ids) → s ≡ idsOf (fresh dcidLimit cid path (tokenView token))
+    → doneAt 0 s ≡ freshIds dcidLimit cid path token
+fresh-0 dcidLimit cid path token e s q =
+    let w = and-both (tokenFormed token) (freshFormed dcidLimit cid) e in
+    ap (doneAt 0) q ∙ sym (ap₂ (λ (t f : Bool). doneOf (freshAt t f (accepted Nothing (fresh dcidLimit cid path (tokenView token))))) (w .0) (w .1))
 
-pub fresh-1 : (dlimit : ℕ) (cid : ConnectionId) (path : ℕ) (token : Token) → (tokenFormed token && freshFormed dlimit cid) ≡ false → (s : Ids) → s ≡ idsOf zeroView
-    → doneAt 1 s ≡ freshIds dlimit cid path token
-fresh-1 dlimit cid path token e s q = ap (doneAt 1) q ∙ sym (ap doneOf (go (tokenFormed token) (freshFormed dlimit cid) e))
+pub fresh-1 : (dcidLimit : ℕ) (cid : ConnectionId) (path : ℕ) (token : Token) → (tokenFormed token && freshFormed dcidLimit cid) ≡ false → (s : Ids) → s ≡ idsOf zeroView
+    → doneAt 1 s ≡ freshIds dcidLimit cid path token
+fresh-1 dcidLimit cid path token e s q = ap (doneAt 1) q ∙ sym (ap doneOf (go (tokenFormed token) (freshFormed dcidLimit cid) e))
   where
-    go : (t f : Bool) → (t && f) ≡ false → freshAt t f (accepted Nothing (fresh dlimit cid path (tokenView token))) ≡ refused 1 zeroView
-    go true f r = ap (λ (b : Bool). cond b (accepted Nothing (fresh dlimit cid path (tokenView token))) (refused 1 zeroView)) r
+    go : (t f : Bool) → (t && f) ≡ false → freshAt t f (accepted Nothing (fresh dcidLimit cid path (tokenView token))) ≡ refused 1 zeroView
+    go true f r = ap (λ (b : Bool). cond b (accepted Nothing (fresh dcidLimit cid path (tokenView token))) (refused 1 zeroView)) r
     go false f r = refl

@@ -91,10 +91,10 @@ module _ (s : Ids) (w : wellFormed s ≡ true) where
       let v = view s in
       let n = length (v .scids) in
       let m = length (v .dcids) in
-      let limited = every-of (limits (v .dlimit) (v .slimit) (v .scap)) (le-leb _ _ (b .dlimit-least), (le-leb _ _ (b .dlimit-most), (le-leb _ _ (b .slimit-least), (le-leb _ _ (b .slimit-most), (eq-eqb _ _ (b .odd), (le-leb _ _ (b .capacity-least), (le-leb _ _ (b .capacity-most), 0))))))) in
-      let sources = every-of (source (v .scap) (v .next) (v .rpt) (v .scids)) (le-leb 1 n (omega (arith, b .sources-some, scids-long s w)), (le-leb n (s .capacity) (omega (arith, b .sources-few, scids-long s w)), (le-leb _ _ (b .next-least), (le-leb _ _ (b .next-most), (le-leb _ _ (b .rpt-most), (rises (s .next) (live (s .source)) (f .rises), (items-well (live (s .source)) (f .source-items), 0))))))) in
-      let destinations = every-of (destination (v .dlimit) (v .dcids)) (le-leb m (2 * s .dlimit - 1) (omega (arith, b .destinations-few, dcids-long s w)), (distincts (live (s .destination)) (f .distinct), (items-well (live (s .destination)) (f .destination-items), 0))) in
-      let queued = every-of (queues (v .advertise) (v .retire)) (le-leb (length (v .advertise)) queueSlots (omega (arith, b .advertised-few, advertise-long s w)), (le-leb (length (v .retire)) queueSlots (omega (arith, b .retired-few, retire-long s w)), 0)) in
+      let limited = every-of (limits (v .dcidLimit) (v .scidLimit) (v .scidCapacity)) (le-leb _ _ (b .dcid-limit-least), (le-leb _ _ (b .dcid-limit-most), (le-leb _ _ (b .scid-limit-least), (le-leb _ _ (b .scid-limit-most), (eq-eqb _ _ (b .odd), (le-leb _ _ (b .capacity-least), (le-leb _ _ (b .capacity-most), 0))))))) in
+      let sources = every-of (source (v .scidCapacity) (v .nextScidSeq) (v .retirePriorTo) (v .scids)) (le-leb 1 n (omega (arith, b .sources-some, scids-long s w)), (le-leb n (s .«scid_capacity») (omega (arith, b .sources-few, scids-long s w)), (le-leb _ _ (b .next-least), (le-leb _ _ (b .next-most), (le-leb _ _ (b .rpt-most), (rises (s .«next_scid_seq») (live (s .scids)) (f .rises), (items-well (live (s .scids)) (f .source-items), 0))))))) in
+      let destinations = every-of (destination (v .dcidLimit) (v .dcids)) (le-leb m (2 * s .«dcid_limit» - 1) (omega (arith, b .destinations-few, dcids-long s w)), (distincts (live (s .dcids)) (f .distinct), (items-well (live (s .dcids)) (f .destination-items), 0))) in
+      let queued = every-of (queues (v .scidsToAdvertise) (v .dcidsToRetire)) (le-leb (length (v .scidsToAdvertise)) queueSlots (omega (arith, b .advertised-few, advertise-long s w)), (le-leb (length (v .dcidsToRetire)) queueSlots (omega (arith, b .retired-few, retire-long s w)), 0)) in
       both (both (both limited sources) destinations) queued
 
   pub step-applies : (c : Call) → callFormed c ≡ true → apply (view s) c ≡ step (view s) c
@@ -171,22 +171,22 @@ conj-of a [] e w = e
 conj-of a (b ∷ bs) e w = conj-of (a && b) bs (both e (w .0)) (w .1)
 
 module _ (v : View) (e : well v ≡ true) where
-  groups : (every (limits (v .dlimit) (v .slimit) (v .scap)) ≡ true) × (every (source (v .scap) (v .next) (v .rpt) (v .scids)) ≡ true) × (every (destination (v .dlimit) (v .dcids)) ≡ true) × (every (queues (v .advertise) (v .retire)) ≡ true)
+  groups : (every (limits (v .dcidLimit) (v .scidLimit) (v .scidCapacity)) ≡ true) × (every (source (v .scidCapacity) (v .nextScidSeq) (v .retirePriorTo) (v .scids)) ≡ true) × (every (destination (v .dcidLimit) (v .dcids)) ≡ true) × (every (queues (v .scidsToAdvertise) (v .dcidsToRetire)) ≡ true)
   groups =
-      let w = conj-each (every (limits (v .dlimit) (v .slimit) (v .scap))) (every (source (v .scap) (v .next) (v .rpt) (v .scids)) ∷ every (destination (v .dlimit) (v .dcids)) ∷ every (queues (v .advertise) (v .retire)) ∷ []) e in
+      let w = conj-each (every (limits (v .dcidLimit) (v .scidLimit) (v .scidCapacity))) (every (source (v .scidCapacity) (v .nextScidSeq) (v .retirePriorTo) (v .scids)) ∷ every (destination (v .dcidLimit) (v .dcids)) ∷ every (queues (v .scidsToAdvertise) (v .dcidsToRetire)) ∷ []) e in
       (w .0, w .1 .0, w .1 .1 .0, w .1 .1 .1 .0)
 
-  li : Each (limits (v .dlimit) (v .slimit) (v .scap))
-  li = each-of (limits (v .dlimit) (v .slimit) (v .scap)) (groups .0)
+  li : Each (limits (v .dcidLimit) (v .scidLimit) (v .scidCapacity))
+  li = each-of (limits (v .dcidLimit) (v .scidLimit) (v .scidCapacity)) (groups .0)
 
-  so : Each (source (v .scap) (v .next) (v .rpt) (v .scids))
-  so = each-of (source (v .scap) (v .next) (v .rpt) (v .scids)) (groups .1)
+  so : Each (source (v .scidCapacity) (v .nextScidSeq) (v .retirePriorTo) (v .scids))
+  so = each-of (source (v .scidCapacity) (v .nextScidSeq) (v .retirePriorTo) (v .scids)) (groups .1)
 
-  de : Each (destination (v .dlimit) (v .dcids))
-  de = each-of (destination (v .dlimit) (v .dcids)) (groups .2)
+  de : Each (destination (v .dcidLimit) (v .dcids))
+  de = each-of (destination (v .dcidLimit) (v .dcids)) (groups .2)
 
-  qu : Each (queues (v .advertise) (v .retire))
-  qu = each-of (queues (v .advertise) (v .retire)) (groups .3)
+  qu : Each (queues (v .scidsToAdvertise) (v .dcidsToRetire))
+  qu = each-of (queues (v .scidsToAdvertise) (v .dcidsToRetire)) (groups .3)
 
   sl : length (map itemOf (v .scids)) ≡ length (v .scids)
   sl = length-map (v .scids) itemOf
@@ -195,17 +195,17 @@ module _ (v : View) (e : well v ≡ true) where
   dl = length-map (v .dcids) itemOf
 
   few-scids : length (map itemOf (v .scids)) ≤ tableSlots
-  few-scids = omega (arith, sl, leb-true (length (v .scids)) (v .scap) (so .1 .0), leb-true (v .scap) tableSlots (li .1 .1 .1 .1 .1 .1 .0))
+  few-scids = omega (arith, sl, leb-true (length (v .scids)) (v .scidCapacity) (so .1 .0), leb-true (v .scidCapacity) tableSlots (li .1 .1 .1 .1 .1 .1 .0))
 
-  few-dcids : length (map itemOf (v .dcids)) < 2 * v .dlimit
-  few-dcids = omega (arith, dl, leb-true (length (v .dcids)) (dcap (v .dlimit)) (de .0), leb-true 1 (v .dlimit) (li .0))
+  few-dcids : length (map itemOf (v .dcids)) < 2 * v .dcidLimit
+  few-dcids = omega (arith, dl, leb-true (length (v .dcids)) (dcap (v .dcidLimit)) (de .0), leb-true 1 (v .dcidLimit) (li .0))
 
-  bounds-well : bounded (v .dlimit) (v .slimit) (v .scap) (length (map itemOf (v .scids))) (length (map itemOf (v .dcids))) (v .next) (v .rpt) (length (v .advertise)) (length (v .retire)) ≡ true
+  bounds-well : bounded (v .dcidLimit) (v .scidLimit) (v .scidCapacity) (length (map itemOf (v .scids))) (length (map itemOf (v .dcids))) (v .nextScidSeq) (v .retirePriorTo) (length (v .scidsToAdvertise)) (length (v .dcidsToRetire)) ≡ true
   bounds-well =
-      conj-of (leb 1 (v .dlimit))
-      (leb (v .dlimit) maxDcidLimit ∷ leb minScidLimit (v .slimit) ∷ leb (v .slimit) maxCidsCount ∷ eqb (v .scap % 2) 1 ∷ leb (2 * v .slimit - 1) (v .scap) ∷ leb (v .scap) tableSlots
-      ∷ leb 1 (length (map itemOf (v .scids))) ∷ leb (length (map itemOf (v .scids))) (v .scap) ∷ ltb (length (map itemOf (v .dcids))) (2 * v .dlimit)
-      ∷ leb 1 (v .next) ∷ leb (v .next) maxSequence ∷ leb (v .rpt) (v .next) ∷ leb (length (v .advertise)) queueSlots ∷ leb (length (v .retire)) queueSlots ∷ [])
+      conj-of (leb 1 (v .dcidLimit))
+      (leb (v .dcidLimit) maxDcidLimit ∷ leb minScidLimit (v .scidLimit) ∷ leb (v .scidLimit) maxCidsCount ∷ eqb (v .scidCapacity % 2) 1 ∷ leb (2 * v .scidLimit - 1) (v .scidCapacity) ∷ leb (v .scidCapacity) tableSlots
+      ∷ leb 1 (length (map itemOf (v .scids))) ∷ leb (length (map itemOf (v .scids))) (v .scidCapacity) ∷ ltb (length (map itemOf (v .dcids))) (2 * v .dcidLimit)
+      ∷ leb 1 (v .nextScidSeq) ∷ leb (v .nextScidSeq) maxSequence ∷ leb (v .retirePriorTo) (v .nextScidSeq) ∷ leb (length (v .scidsToAdvertise)) queueSlots ∷ leb (length (v .dcidsToRetire)) queueSlots ∷ [])
       (li .0) (
         li .1 .0,
         (
@@ -221,7 +221,7 @@ module _ (v : View) (e : well v ≡ true) where
                   (
                     ap (leb 1) sl ∙ so .0,
                     (
-                      ap (λ (n : ℕ). leb n (v .scap)) sl ∙ so .1 .0,
+                      ap (λ (n : ℕ). leb n (v .scidCapacity)) sl ∙ so .1 .0,
                       (
                         lt-ltb _ _ few-dcids,
                         (so .1 .1 .0, (so .1 .1 .1 .0, (so .1 .1 .1 .1 .0, (qu .0, (qu .1 .0, 0))))),
@@ -235,12 +235,12 @@ module _ (v : View) (e : well v ≡ true) where
         ),
       )
 
-  source-of : sourcesFormed (tableOf (map itemOf (v .scids))) (v .next) ≡ true
+  source-of : sourcesFormed (tableOf (map itemOf (v .scids))) (v .nextScidSeq) ≡ true
   source-of =
       let l = map itemOf (v .scids) in
       let t = take-padded tableSlots zeroItem l in
       both (both (ap (all F.itemFormed) t ∙ items-of (v .scids) (so .1 .1 .1 .1 .1 .1 .0))
-      (ap (λ (r : List I.Item). D.rising (map T.seqOf r ++ (v .next ∷ []))) t ∙ rises-of (v .next) (v .scids) (so .1 .1 .1 .1 .1 .0)))
+      (ap (λ (r : List I.Item). D.rising (map T.seqOf r ++ (v .nextScidSeq ∷ []))) t ∙ rises-of (v .nextScidSeq) (v .scids) (so .1 .1 .1 .1 .1 .0)))
       (past-pad isZero zeroItem refl tableSlots l few-scids)
 
   destination-of : destinationsFormed (tableOf (map itemOf (v .dcids))) ≡ true
@@ -248,12 +248,12 @@ module _ (v : View) (e : well v ≡ true) where
       let l = map itemOf (v .dcids) in
       let t = take-padded tableSlots zeroItem l in
       both (both (ap (all F.itemFormed) t ∙ items-of (v .dcids) (de .1 .1 .0)) (ap (pairwise apart) t ∙ distinct-of (v .dcids) (de .1 .0)))
-      (past-pad isZero zeroItem refl tableSlots l (omega (arith, few-dcids, leb-true (v .dlimit) maxDcidLimit (li .1 .0))))
+      (past-pad isZero zeroItem refl tableSlots l (omega (arith, few-dcids, leb-true (v .dcidLimit) maxDcidLimit (li .1 .0))))
 
   -- the state of a well-formed view
   pub state-well : wellFormed (idsOf v) ≡ true
   state-well =
       both bounds-well
       (both (both (both source-of destination-of)
-      (past-pad nought 0 refl queueSlots (v .advertise) (leb-true (length (v .advertise)) queueSlots (qu .0))))
-      (past-pad nought 0 refl queueSlots (v .retire) (leb-true (length (v .retire)) queueSlots (qu .1 .0))))
+      (past-pad nought 0 refl queueSlots (v .scidsToAdvertise) (leb-true (length (v .scidsToAdvertise)) queueSlots (qu .0))))
+      (past-pad nought 0 refl queueSlots (v .dcidsToRetire) (leb-true (length (v .dcidsToRetire)) queueSlots (qu .1 .0))))

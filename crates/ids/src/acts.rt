@@ -30,48 +30,48 @@ pub fn set_initial_dcid_at(
     s: Ids,
     cid: ConnectionId,
     token: Token,
-    has: bool,
+    has_path: bool,
     path: u64,
 ) -> InitialOut
-    ensures { λ r. ⌜ Leaves (putInitial (r .destination) (r .«zero_destination») s) (doneCall s (idFormed cid && tokenFormed token && pathFormed has path) (C.SetInitialDcid cid (tokenView token) (given has path)) .ids) (r .answer) (doneCall s (idFormed cid && tokenFormed token && pathFormed has path) (C.SetInitialDcid cid (tokenView token) (given has path)) .answer) ⌝ }
+    ensures { λ r. ⌜ Leaves (putInitial (r .dcids) (r .«zero_length_dcid») s) (doneCall s (idFormed cid && tokenFormed token && pathFormed «has_path» path) (C.SetInitialDcid cid (tokenView token) (given «has_path» path)) .ids) (r .answer) (doneCall s (idFormed cid && tokenFormed token && pathFormed «has_path» path) (C.SetInitialDcid cid (tokenView token) (given «has_path» path)) .answer) ⌝ }
 {
     let f = ids_state::formed(s);
     let c = values::cid_formed(cid);
     let k = values::token_formed(token);
-    let args = c & k & (has | (path == 0));
+    let args = c & k & (has_path | (path == 0));
     if f & args {
-        let t = starts::only(cid, token, has, path);
+        let t = starts::only(cid, token, has_path, path);
         return InitialOut {
-            destination: t,
-            zero_destination: cid.len == 0,
+            dcids: t,
+            zero_length_dcid: cid.len == 0,
             answer: Done { refusal: ACCEPTED },
         };
     }
-    let t = s.destination;
+    let t = s.dcids;
     InitialOut {
-        destination: t,
-        zero_destination: s.zero_destination,
+        dcids: t,
+        zero_length_dcid: s.zero_length_dcid,
         answer: Done { refusal: MALFORMED },
     }
 }
 
 // The most source IDs that the peer allows, clamped to 2..16.
 pub fn set_scid_limit_at(s: Ids, n: u64) -> LimitOut
-    ensures { λ r. ⌜ Leaves (putLimit (r .slimit) (r .capacity) s) (doneCall s true (C.SetScidLimit n) .ids) (r .answer) (doneCall s true (C.SetScidLimit n) .answer) ⌝ }
+    ensures { λ r. ⌜ Leaves (putLimit (r .«scid_limit») (r .«scid_capacity») s) (doneCall s true (C.SetScidLimit n) .ids) (r .answer) (doneCall s true (C.SetScidLimit n) .answer) ⌝ }
 {
     if ids_state::formed(s) {
         let limit = starts::clamped(n);
         let wide = (2 * limit - 1) as usize;
-        let capacity = starts::larger(s.capacity, wide);
+        let capacity = starts::larger(s.scid_capacity, wide);
         return LimitOut {
-            slimit: limit,
-            capacity: capacity,
+            scid_limit: limit,
+            scid_capacity: capacity,
             answer: Done { refusal: ACCEPTED },
         };
     }
     LimitOut {
-        slimit: s.slimit,
-        capacity: s.capacity,
+        scid_limit: s.scid_limit,
+        scid_capacity: s.scid_capacity,
         answer: Done { refusal: MALFORMED },
     }
 }
@@ -80,7 +80,7 @@ pub fn set_scid_limit_at(s: Ids, n: u64) -> LimitOut
 pub fn mark_scid_used_at(s: Ids, seq: u64, path: u64) -> TableOut
     ensures { λ r. ⌜ Leaves (putSource (r .table) s) (doneCall s true (C.MarkScidUsed seq path) .ids) (r .answer) (doneCall s true (C.MarkScidUsed seq path) .answer) ⌝ }
 {
-    let t = s.source;
+    let t = s.scids;
     if ids_state::formed(s) {
         marks::used_step(t, seq, path)
     } else {
@@ -92,7 +92,7 @@ pub fn mark_scid_used_at(s: Ids, seq: u64, path: u64) -> TableOut
 pub fn mark_dcid_used_at(s: Ids, seq: u64, path: u64) -> TableOut
     ensures { λ r. ⌜ Leaves (putDestination (r .table) s) (doneCall s true (C.MarkDcidUsed seq path) .ids) (r .answer) (doneCall s true (C.MarkDcidUsed seq path) .answer) ⌝ }
 {
-    let t = s.destination;
+    let t = s.dcids;
     if ids_state::formed(s) {
         marks::used_step(t, seq, path)
     } else {
@@ -106,41 +106,41 @@ pub fn add_scid_at(
     cid: ConnectionId,
     token: Token,
     advertise: bool,
-    has: bool,
+    has_path: bool,
     path: u64,
-    leave: bool,
+    retire_if_needed: bool,
 ) -> IssuedParts
-    ensures { λ r. ⌜ Leaves (putIssued (r .source) (r .advertise) (r .next) (r .rpt) s) (issuedCall s (idFormed cid && tokenFormed token && pathFormed has path) (C.AddScid cid (tokenView token) advertise (given has path) leave) .ids) (r .answer) (issuedCall s (idFormed cid && tokenFormed token && pathFormed has path) (C.AddScid cid (tokenView token) advertise (given has path) leave) .answer) ⌝ }
+    ensures { λ r. ⌜ Leaves (putIssued (r .scids) (r .«scids_to_advertise») (r .«next_scid_seq») (r .«retire_prior_to») s) (issuedCall s (idFormed cid && tokenFormed token && pathFormed «has_path» path) (C.AddScid cid (tokenView token) advertise (given «has_path» path) «retire_if_needed») .ids) (r .answer) (issuedCall s (idFormed cid && tokenFormed token && pathFormed «has_path» path) (C.AddScid cid (tokenView token) advertise (given «has_path» path) «retire_if_needed») .answer) ⌝ }
 {
     let f = ids_state::formed(s);
     let c = values::cid_formed(cid);
     let k = values::token_formed(token);
-    let args = c & k & (has | (path == 0));
+    let args = c & k & (has_path | (path == 0));
     if f & args {
-        issues::add_scid_step(s, cid, token, advertise, has, path, leave)
+        issues::add_scid_step(s, cid, token, advertise, has_path, path, retire_if_needed)
     } else {
-        issues::none_issued(s, s.rpt, MALFORMED)
+        issues::none_issued(s, s.retire_prior_to, MALFORMED)
     }
 }
 
 // A RETIRE_CONNECTION_ID frame: the answer is the path that used the ID.
 pub fn retire_scid_at(s: Ids, seq: u64, packet: ConnectionId) -> FreedParts
-    ensures { λ r. ⌜ Leaves (putSourceRpt (r .source) (r .rpt) s) (freedCall s (idFormed packet) (C.RetireScid seq packet) .ids) (r .answer) (freedCall s (idFormed packet) (C.RetireScid seq packet) .answer) ⌝ }
+    ensures { λ r. ⌜ Leaves (putSourceRpt (r .scids) (r .«retire_prior_to») s) (freedCall s (idFormed packet) (C.RetireScid seq packet) .ids) (r .answer) (freedCall s (idFormed packet) (C.RetireScid seq packet) .answer) ⌝ }
 {
     let f = ids_state::formed(s);
     let c = values::cid_formed(packet);
     if f & c {
         return issues::retire_scid_step(s, seq, packet);
     }
-    let t = s.source;
-    issues::none_freed(t, s.rpt, MALFORMED)
+    let t = s.scids;
+    issues::none_freed(t, s.retire_prior_to, MALFORMED)
 }
 
 // The source sequence is to be announced, or no longer.
 pub fn mark_scid_to_advertise_at(s: Ids, seq: u64, on: bool) -> QueueOut
     ensures { λ r. ⌜ Leaves (putAdvertise (r .queue) s) (doneCall s true (C.MarkScidToAdvertise seq on) .ids) (r .answer) (doneCall s true (C.MarkScidToAdvertise seq on) .answer) ⌝ }
 {
-    let q = s.advertise;
+    let q = s.scids_to_advertise;
     if ids_state::formed(s) {
         marks::queue_step(q, seq, on)
     } else {
@@ -152,7 +152,7 @@ pub fn mark_scid_to_advertise_at(s: Ids, seq: u64, on: bool) -> QueueOut
 pub fn mark_dcid_to_retire_at(s: Ids, seq: u64, on: bool) -> QueueOut
     ensures { λ r. ⌜ Leaves (putRetire (r .queue) s) (doneCall s true (C.MarkDcidToRetire seq on) .ids) (r .answer) (doneCall s true (C.MarkDcidToRetire seq on) .answer) ⌝ }
 {
-    let q = s.retire;
+    let q = s.dcids_to_retire;
     if ids_state::formed(s) {
         marks::queue_step(q, seq, on)
     } else {

@@ -38,23 +38,23 @@ fn no_pairs(d: Table, q: Queue, largest: u64, n: u8) -> RetiredParts
 {
     let none = none_retired(n);
     RetiredParts {
-        destination: d,
-        retire: q,
-        largest: largest,
+        dcids: d,
+        dcids_to_retire: q,
+        largest_peer_retire_prior_to: largest,
         answer: none,
     }
 }
 
 // A sequence below the largest Retire Prior To is queued at once.
-fn late_step(t: Table, q: Queue, largest: u64, dlimit: u64, seq: u64) -> RetiredParts
-    requires { ⌜ Held t q largest dlimit ⌝ }
-    ensures { λ r. ⌜ Gives t q largest dlimit r (S.queueLate seq) ⌝ }
+fn late_step(t: Table, q: Queue, largest: u64, dcid_limit: u64, seq: u64) -> RetiredParts
+    requires { ⌜ Held t q largest «dcid_limit» ⌝ }
+    ensures { λ r. ⌜ Gives t q largest «dcid_limit» r (S.queueLate seq) ⌝ }
 {
     if QUEUE_SLOTS <= q.count {
         return no_pairs(t, q, largest, NO_SLOT);
     }
     let p = tables::queue_push(q, seq);
-    let most = RETIRE_FACTOR * dlimit;
+    let most = RETIRE_FACTOR * dcid_limit;
     let n = p.count as u64;
     if most < n {
         return no_pairs(t, p, largest, PROTOCOL_VIOLATION);
@@ -62,11 +62,11 @@ fn late_step(t: Table, q: Queue, largest: u64, dlimit: u64, seq: u64) -> Retired
     no_pairs(t, p, largest, ACCEPTED)
 }
 
-fn append_step(t: Table, q: Queue, largest: u64, dlimit: u64, x: Item) -> RetiredParts
-    requires { ⌜ Held t q largest dlimit × (itemFormed x ≡ true) ⌝ }
-    ensures { λ r. ⌜ Gives t q largest dlimit r (S.append (itemView x) []) ⌝ }
+fn append_step(t: Table, q: Queue, largest: u64, dcid_limit: u64, x: Item) -> RetiredParts
+    requires { ⌜ Held t q largest «dcid_limit» × (itemFormed x ≡ true) ⌝ }
+    ensures { λ r. ⌜ Gives t q largest «dcid_limit» r (S.append (itemView x) []) ⌝ }
 {
-    let most = 2 * dlimit - 1;
+    let most = 2 * dcid_limit - 1;
     let n = t.count as u64;
     if most <= n {
         return no_pairs(t, q, largest, CONNECTION_ID_LIMIT_ERROR);
@@ -76,9 +76,9 @@ fn append_step(t: Table, q: Queue, largest: u64, dlimit: u64, x: Item) -> Retire
 }
 
 // A Retire Prior To above the largest: 6 is decided before anything moves.
-fn raise_step(t: Table, q: Queue, largest: u64, dlimit: u64, x: Item, b: u64) -> RetiredParts
-    requires { ⌜ Held t q largest dlimit × (itemFormed x ≡ true) ⌝ }
-    ensures { λ r. ⌜ Gives t q largest dlimit r (S.raise (itemView x) b) ⌝ }
+fn raise_step(t: Table, q: Queue, largest: u64, dcid_limit: u64, x: Item, b: u64) -> RetiredParts
+    requires { ⌜ Held t q largest «dcid_limit» × (itemFormed x ≡ true) ⌝ }
+    ensures { λ r. ⌜ Gives t q largest «dcid_limit» r (S.raise (itemView x) b) ⌝ }
 {
     let kept = tables::keep_from(t, b);
     let lower = t.count - kept.count;
@@ -87,12 +87,12 @@ fn raise_step(t: Table, q: Queue, largest: u64, dlimit: u64, x: Item, b: u64) ->
         return no_pairs(t, q, largest, NO_SLOT);
     }
     let moved = tables::queue_lower(t, b, q);
-    let most = RETIRE_FACTOR * dlimit;
+    let most = RETIRE_FACTOR * dcid_limit;
     let n = moved.count as u64;
     if most < n {
         return no_pairs(kept, moved, b, PROTOCOL_VIOLATION);
     }
-    let room = 2 * dlimit - 1;
+    let room = 2 * dcid_limit - 1;
     let k = kept.count as u64;
     if room <= k {
         return no_pairs(kept, moved, b, CONNECTION_ID_LIMIT_ERROR);
@@ -100,9 +100,9 @@ fn raise_step(t: Table, q: Queue, largest: u64, dlimit: u64, x: Item, b: u64) ->
     let used = tables::used_lower(t, b);
     let d = tables::append(kept, x);
     RetiredParts {
-        destination: d,
-        retire: moved,
-        largest: b,
+        dcids: d,
+        dcids_to_retire: moved,
+        largest_peer_retire_prior_to: b,
         answer: RetiredAnswer {
             refusal: ACCEPTED,
             used: used,
@@ -110,9 +110,9 @@ fn raise_step(t: Table, q: Queue, largest: u64, dlimit: u64, x: Item, b: u64) ->
     }
 }
 
-fn new_step(t: Table, q: Queue, largest: u64, dlimit: u64, x: Item, b: u64) -> RetiredParts
-    requires { ⌜ Held t q largest dlimit × (itemFormed x ≡ true) ⌝ }
-    ensures { λ r. ⌜ Gives t q largest dlimit r (S.addNew (itemView x) b) ⌝ }
+fn new_step(t: Table, q: Queue, largest: u64, dcid_limit: u64, x: Item, b: u64) -> RetiredParts
+    requires { ⌜ Held t q largest «dcid_limit» × (itemFormed x ≡ true) ⌝ }
+    ensures { λ r. ⌜ Gives t q largest «dcid_limit» r (S.addNew (itemView x) b) ⌝ }
 {
     if x.seq < b {
         return no_pairs(t, q, largest, PROTOCOL_VIOLATION);
@@ -121,22 +121,22 @@ fn new_step(t: Table, q: Queue, largest: u64, dlimit: u64, x: Item, b: u64) -> R
     let has = tables::queue_has(q, seq);
     let late = (seq < largest) & !has;
     if late {
-        return late_step(t, q, largest, dlimit, seq);
+        return late_step(t, q, largest, dcid_limit, seq);
     }
     if largest < b {
-        return raise_step(t, q, largest, dlimit, x, b);
+        return raise_step(t, q, largest, dcid_limit, x, b);
     }
-    append_step(t, q, largest, dlimit, x)
+    append_step(t, q, largest, dcid_limit, x)
 }
 
 pub fn add_dcid_step(s: Ids, cid: ConnectionId, seq: u64, token: [u8; 16], b: u64) -> RetiredParts
     requires { ⌜ (wellFormed s ≡ true) × (idFormed cid ≡ true) ⌝ }
     ensures { λ r. ⌜ retiredIn s r ≡ retiredOf (S.addDcid cid seq token b (view s)) ⌝ }
 {
-    let t = s.destination;
-    let q = s.retire;
-    if s.zero_destination {
-        return no_pairs(t, q, s.largest, PROTOCOL_VIOLATION);
+    let t = s.dcids;
+    let q = s.dcids_to_retire;
+    if s.zero_length_dcid {
+        return no_pairs(t, q, s.largest_peer_retire_prior_to, PROTOCOL_VIOLATION);
     }
     let x = Item {
         seq: seq,
@@ -150,10 +150,10 @@ pub fn add_dcid_step(s: Ids, cid: ConnectionId, seq: u64, token: [u8; 16], b: u6
     };
     let j = tables::clash(t, x);
     if j == 1 {
-        return no_pairs(t, q, s.largest, ACCEPTED);
+        return no_pairs(t, q, s.largest_peer_retire_prior_to, ACCEPTED);
     }
     if j != 0 {
-        return no_pairs(t, q, s.largest, PROTOCOL_VIOLATION);
+        return no_pairs(t, q, s.largest_peer_retire_prior_to, PROTOCOL_VIOLATION);
     }
-    new_step(t, q, s.largest, s.dlimit, x, b)
+    new_step(t, q, s.largest_peer_retire_prior_to, s.dcid_limit, x, b)
 }

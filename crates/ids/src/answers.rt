@@ -81,34 +81,34 @@ pub struct QueueOut {
 }
 
 pub struct InitialOut {
-    pub destination: Table,
-    pub zero_destination: bool,
+    pub dcids: Table,
+    pub zero_length_dcid: bool,
     pub answer: Done,
 }
 
 pub struct LimitOut {
-    pub slimit: u64,
-    pub capacity: usize,
+    pub scid_limit: u64,
+    pub scid_capacity: usize,
     pub answer: Done,
 }
 
 pub struct IssuedParts {
-    pub source: Table,
-    pub advertise: Queue,
-    pub next: u64,
-    pub rpt: u64,
+    pub scids: Table,
+    pub scids_to_advertise: Queue,
+    pub next_scid_seq: u64,
+    pub retire_prior_to: u64,
     pub answer: Counted,
 }
 
 pub struct FreedParts {
-    pub source: Table,
-    pub rpt: u64,
+    pub scids: Table,
+    pub retire_prior_to: u64,
     pub answer: Numbered,
 }
 
 pub struct RetiredParts {
-    pub destination: Table,
-    pub retire: Queue,
-    pub largest: u64,
+    pub dcids: Table,
+    pub dcids_to_retire: Queue,
+    pub largest_peer_retire_prior_to: u64,
     pub answer: RetiredAnswer,
 }

@@ -32,14 +32,14 @@ use values::refusals::ACCEPTED;
 use values::refusals::MALFORMED;
 
 // One source ID, with sequence 0, on its path. A refused call gives the all-zero state.
-pub fn fresh(dlimit: u64, cid: ConnectionId, path: u64, token: Token) -> DoneOut
-    ensures { λ r. ⌜ r ≡ freshIds dlimit cid path token ⌝ }
+pub fn fresh(dcid_limit: u64, cid: ConnectionId, path: u64, token: Token) -> DoneOut
+    ensures { λ r. ⌜ r ≡ freshIds «dcid_limit» cid path token ⌝ }
 {
     let c = values::cid_formed(cid);
     let k = values::token_formed(token);
-    let ok = k & ((1 <= dlimit) & (dlimit <= MAX_DCID_LIMIT) & c);
+    let ok = k & ((1 <= dcid_limit) & (dcid_limit <= MAX_DCID_LIMIT) & c);
     if ok {
-        let s = starts::first_state(dlimit, cid, path, token);
+        let s = starts::first_state(dcid_limit, cid, path, token);
         return marks::done(s, ACCEPTED);
     }
     let z = starts::zero_state();
@@ -47,18 +47,24 @@ pub fn fresh(dlimit: u64, cid: ConnectionId, path: u64, token: Token) -> DoneOut
 }
 
 // The destination table holds the ID alone, with sequence 0.
-pub fn set_initial_dcid(s: Ids, cid: ConnectionId, token: Token, has: bool, path: u64) -> DoneOut
-    ensures { λ r. ⌜ r ≡ doneCall s (idFormed cid && tokenFormed token && pathFormed has path) (C.SetInitialDcid cid (tokenView token) (given has path)) ⌝ }
+pub fn set_initial_dcid(
+    s: Ids,
+    cid: ConnectionId,
+    token: Token,
+    has_path: bool,
+    path: u64,
+) -> DoneOut
+    ensures { λ r. ⌜ r ≡ doneCall s (idFormed cid && tokenFormed token && pathFormed «has_path» path) (C.SetInitialDcid cid (tokenView token) (given «has_path» path)) ⌝ }
 {
     let f = ids_state::formed(s);
     let c = values::cid_formed(cid);
     let k = values::token_formed(token);
-    let args = c & k & (has | (path == 0));
+    let args = c & k & (has_path | (path == 0));
     if f & args {
-        let t = starts::only(cid, token, has, path);
+        let t = starts::only(cid, token, has_path, path);
         let mut u = s;
-        u.destination = t;
-        u.zero_destination = cid.len == 0;
+        u.dcids = t;
+        u.zero_length_dcid = cid.len == 0;
         marks::done(u, ACCEPTED)
     } else {
         marks::done(s, MALFORMED)
@@ -71,8 +77,8 @@ pub fn set_scid_limit(s: Ids, n: u64) -> DoneOut
 {
     let a = acts::set_scid_limit_at(s, n);
     let mut u = s;
-    u.slimit = a.slimit;
-    u.capacity = a.capacity;
+    u.scid_limit = a.scid_limit;
+    u.scid_capacity = a.scid_capacity;
     let d = a.answer;
     DoneOut { ids: u, answer: d }
 }
@@ -82,7 +88,7 @@ pub fn get_scid(s: Ids, seq: u64) -> ItemAnswer
     ensures { λ r. ⌜ r ≡ itemCall s (C.GetScid seq) ⌝ }
 {
     if ids_state::formed(s) {
-        let t = s.source;
+        let t = s.scids;
         reads::get(t, seq)
     } else {
         reads::no_item(MALFORMED)
@@ -94,7 +100,7 @@ pub fn get_dcid(s: Ids, seq: u64) -> ItemAnswer
     ensures { λ r. ⌜ r ≡ itemCall s (C.GetDcid seq) ⌝ }
 {
     if ids_state::formed(s) {
-        let t = s.destination;
+        let t = s.dcids;
         reads::get(t, seq)
     } else {
         reads::no_item(MALFORMED)
@@ -108,7 +114,7 @@ pub fn find_scid(s: Ids, cid: ConnectionId) -> FoundAnswer
     let f = ids_state::formed(s);
     let c = values::cid_formed(cid);
     if f & c {
-        let t = s.source;
+        let t = s.scids;
         reads::find(t, cid)
     } else {
         reads::not_found(MALFORMED)
@@ -122,7 +128,7 @@ pub fn mark_scid_used(s: Ids, seq: u64, path: u64) -> DoneOut
     let a = acts::mark_scid_used_at(s, seq, path);
     let t = a.table;
     let mut u = s;
-    u.source = t;
+    u.scids = t;
     let d = a.answer;
     DoneOut { ids: u, answer: d }
 }
@@ -134,7 +140,7 @@ pub fn mark_dcid_used(s: Ids, seq: u64, path: u64) -> DoneOut
     let a = acts::mark_dcid_used_at(s, seq, path);
     let t = a.table;
     let mut u = s;
-    u.destination = t;
+    u.dcids = t;
     let d = a.answer;
     DoneOut { ids: u, answer: d }
 }
@@ -144,7 +150,7 @@ pub fn unused_scids(s: Ids) -> Counted
     ensures { λ r. ⌜ r ≡ countedCall s C.UnusedScids ⌝ }
 {
     if ids_state::formed(s) {
-        let t = s.source;
+        let t = s.scids;
         reads::free(t)
     } else {
         reads::no_count(MALFORMED)
@@ -156,10 +162,10 @@ pub fn unused_dcids(s: Ids) -> Counted
     ensures { λ r. ⌜ r ≡ countedCall s C.UnusedDcids ⌝ }
 {
     if ids_state::formed(s) {
-        if s.zero_destination {
+        if s.zero_length_dcid {
             return reads::no_count(ACCEPTED);
         }
-        let t = s.destination;
+        let t = s.dcids;
         reads::free(t)
     } else {
         reads::no_count(MALFORMED)
@@ -171,7 +177,7 @@ pub fn lowest_unused_dcid_seq(s: Ids) -> Numbered
     ensures { λ r. ⌜ r ≡ numberedCall s C.LowestUnusedDcidSeq ⌝ }
 {
     if ids_state::formed(s) {
-        let t = s.destination;
+        let t = s.dcids;
         reads::lowest(t)
     } else {
         reads::no_number(MALFORMED)
@@ -184,20 +190,20 @@ pub fn add_scid(
     cid: ConnectionId,
     token: Token,
     advertise: bool,
-    has: bool,
+    has_path: bool,
     path: u64,
-    leave: bool,
+    retire_if_needed: bool,
 ) -> IssuedOut
-    ensures { λ r. ⌜ r ≡ issuedCall s (idFormed cid && tokenFormed token && pathFormed has path) (C.AddScid cid (tokenView token) advertise (given has path) leave) ⌝ }
+    ensures { λ r. ⌜ r ≡ issuedCall s (idFormed cid && tokenFormed token && pathFormed «has_path» path) (C.AddScid cid (tokenView token) advertise (given «has_path» path) «retire_if_needed») ⌝ }
 {
-    let a = acts::add_scid_at(s, cid, token, advertise, has, path, leave);
-    let t = a.source;
-    let q = a.advertise;
+    let a = acts::add_scid_at(s, cid, token, advertise, has_path, path, retire_if_needed);
+    let t = a.scids;
+    let q = a.scids_to_advertise;
     let mut u = s;
-    u.source = t;
-    u.advertise = q;
-    u.next = a.next;
-    u.rpt = a.rpt;
+    u.scids = t;
+    u.scids_to_advertise = q;
+    u.next_scid_seq = a.next_scid_seq;
+    u.retire_prior_to = a.retire_prior_to;
     let d = a.answer;
     IssuedOut { ids: u, answer: d }
 }
@@ -217,12 +223,12 @@ pub fn add_dcid(
     let c = values::cid_formed(cid);
     if f & c {
         let p = adds::add_dcid_step(s, cid, seq, bytes, retire_prior_to);
-        let t = p.destination;
-        let q = p.retire;
+        let t = p.dcids;
+        let q = p.dcids_to_retire;
         let mut u = s;
-        u.destination = t;
-        u.retire = q;
-        u.largest = p.largest;
+        u.dcids = t;
+        u.dcids_to_retire = q;
+        u.largest_peer_retire_prior_to = p.largest_peer_retire_prior_to;
         let d = p.answer;
         return RetiredOut { ids: u, answer: d };
     }
@@ -235,10 +241,10 @@ pub fn retire_scid(s: Ids, seq: u64, packet: ConnectionId) -> FreedOut
     ensures { λ r. ⌜ r ≡ freedCall s (idFormed packet) (C.RetireScid seq packet) ⌝ }
 {
     let a = acts::retire_scid_at(s, seq, packet);
-    let t = a.source;
+    let t = a.scids;
     let mut u = s;
-    u.source = t;
-    u.rpt = a.rpt;
+    u.scids = t;
+    u.retire_prior_to = a.retire_prior_to;
     let d = a.answer;
     FreedOut { ids: u, answer: d }
 }
@@ -248,11 +254,11 @@ pub fn mark_scid_to_advertise(s: Ids, seq: u64, on: bool) -> DoneOut
     ensures { λ r. ⌜ r ≡ doneCall s true (C.MarkScidToAdvertise seq on) ⌝ }
 {
     if ids_state::formed(s) {
-        let q = s.advertise;
+        let q = s.scids_to_advertise;
         let p = marks::queue_step(q, seq, on);
         let marked = p.queue;
         let mut u = s;
-        u.advertise = marked;
+        u.scids_to_advertise = marked;
         marks::done(u, p.answer.refusal)
     } else {
         marks::done(s, MALFORMED)
@@ -264,11 +270,11 @@ pub fn mark_dcid_to_retire(s: Ids, seq: u64, on: bool) -> DoneOut
     ensures { λ r. ⌜ r ≡ doneCall s true (C.MarkDcidToRetire seq on) ⌝ }
 {
     if ids_state::formed(s) {
-        let q = s.retire;
+        let q = s.dcids_to_retire;
         let p = marks::queue_step(q, seq, on);
         let marked = p.queue;
         let mut u = s;
-        u.retire = marked;
+        u.dcids_to_retire = marked;
         marks::done(u, p.answer.refusal)
     } else {
         marks::done(s, MALFORMED)
@@ -280,7 +286,7 @@ pub fn next_scid_to_advertise(s: Ids) -> Numbered
     ensures { λ r. ⌜ r ≡ numberedCall s C.NextScidToAdvertise ⌝ }
 {
     if ids_state::formed(s) {
-        let q = s.advertise;
+        let q = s.scids_to_advertise;
         reads::next(q)
     } else {
         reads::no_number(MALFORMED)
@@ -292,7 +298,7 @@ pub fn next_dcid_to_retire(s: Ids) -> Numbered
     ensures { λ r. ⌜ r ≡ numberedCall s C.NextDcidToRetire ⌝ }
 {
     if ids_state::formed(s) {
-        let q = s.retire;
+        let q = s.dcids_to_retire;
         reads::next(q)
     } else {
         reads::no_number(MALFORMED)
@@ -304,8 +310,8 @@ pub fn create_new_connection_id_frame(s: Ids, seq: u64) -> FrameAnswer
     ensures { λ r. ⌜ r ≡ frameCall s (C.CreateNewConnectionIdFrame seq) ⌝ }
 {
     if ids_state::formed(s) {
-        let t = s.source;
-        reads::frame(t, s.rpt, seq)
+        let t = s.scids;
+        reads::frame(t, s.retire_prior_to, seq)
     } else {
         reads::no_frame(MALFORMED)
     }
@@ -316,8 +322,8 @@ pub fn need_send_cid_control_frames(s: Ids) -> Flagged
     ensures { λ r. ⌜ r ≡ flaggedCall s C.NeedSendCidControlFrames ⌝ }
 {
     if ids_state::formed(s) {
-        let q = s.retire;
-        let a = s.advertise;
+        let q = s.dcids_to_retire;
+        let a = s.scids_to_advertise;
         Flagged {
             refusal: ACCEPTED,
             flag: (q.count != 0) | (a.count != 0),
@@ -334,7 +340,7 @@ pub fn zero_length_dcid(s: Ids) -> Flagged
     if ids_state::formed(s) {
         Flagged {
             refusal: ACCEPTED,
-            flag: s.zero_destination,
+            flag: s.zero_length_dcid,
         }
     } else {
         reads::no_flag(MALFORMED)
@@ -348,7 +354,7 @@ pub fn zero_length_scid(s: Ids) -> Flagged
     if ids_state::formed(s) {
         Flagged {
             refusal: ACCEPTED,
-            flag: s.zero_source,
+            flag: s.zero_length_scid,
         }
     } else {
         reads::no_flag(MALFORMED)
@@ -359,7 +365,7 @@ pub fn dcid_count(s: Ids) -> Counted
     ensures { λ r. ⌜ r ≡ countedCall s C.DcidCount ⌝ }
 {
     if ids_state::formed(s) {
-        let t = s.destination;
+        let t = s.dcids;
         Counted {
             refusal: ACCEPTED,
             number: t.count as u64,
@@ -373,7 +379,7 @@ pub fn dcid_at(s: Ids, place: u64) -> ItemAnswer
     ensures { λ r. ⌜ r ≡ itemCall s (C.DcidAt place) ⌝ }
 {
     if ids_state::formed(s) {
-        let t = s.destination;
+        let t = s.dcids;
         reads::item_at(t, place)
     } else {
         reads::no_item(MALFORMED)
@@ -385,7 +391,7 @@ pub fn scid_count(s: Ids) -> Counted
     ensures { λ r. ⌜ r ≡ countedCall s C.ScidCount ⌝ }
 {
     if ids_state::formed(s) {
-        let t = s.source;
+        let t = s.scids;
         Counted {
             refusal: ACCEPTED,
             number: t.count as u64,
@@ -399,7 +405,7 @@ pub fn scid_at(s: Ids, place: u64) -> ItemAnswer
     ensures { λ r. ⌜ r ≡ itemCall s (C.ScidAt place) ⌝ }
 {
     if ids_state::formed(s) {
-        let t = s.source;
+        let t = s.scids;
         reads::item_at(t, place)
     } else {
         reads::no_item(MALFORMED)

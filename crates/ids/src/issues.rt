@@ -7,7 +7,7 @@ ghost use Rattle.lists.specs.Defs.{firstWith, given};
 ghost use Rattle.values.specs.Token.{tokenFormed, tokenView};
 ghost use Rattle.tables.specs.Table as T;
 ghost use Rattle.ids_state.specs.Formed.{wellFormed};
-ghost use Rattle.ids_rules.specs.View.{withRpt, withScids};
+ghost use Rattle.ids_rules.specs.With.{withRetirePriorTo, withScids};
 ghost use Rattle.ids_rules.specs.Steps as S;
 ghost use Rattle.ids.specs.Reading.{freedOf, issuedAt, issuedOf, itemView, pathFormed, view};
 ghost use Rattle.ids.specs.Puts.{putRpt};
@@ -32,16 +32,16 @@ use values::refusals::NO_SLOT;
 use values::refusals::PROTOCOL_VIOLATION;
 use values::refusals::SPENT;
 
-pub fn none_issued(s: Ids, rpt: u64, n: u8) -> IssuedParts
-    ensures { λ r. ⌜ issuedIn s r ≡ issuedAt n 0 (putRpt rpt s) ⌝ }
+pub fn none_issued(s: Ids, retire_prior_to: u64, n: u8) -> IssuedParts
+    ensures { λ r. ⌜ issuedIn s r ≡ issuedAt n 0 (putRpt «retire_prior_to» s) ⌝ }
 {
-    let t = s.source;
-    let q = s.advertise;
+    let t = s.scids;
+    let q = s.scids_to_advertise;
     IssuedParts {
-        source: t,
-        advertise: q,
-        next: s.next,
-        rpt: rpt,
+        scids: t,
+        scids_to_advertise: q,
+        next_scid_seq: s.next_scid_seq,
+        retire_prior_to: retire_prior_to,
         answer: Counted {
             refusal: n,
             number: 0,
@@ -50,32 +50,32 @@ pub fn none_issued(s: Ids, rpt: u64, n: u8) -> IssuedParts
 }
 
 // With own Retire Prior To as it was, or raised. 6 leaves the old one.
-fn issue_step(s: Ids, rpt: u64, x: Item, advertise: bool) -> IssuedParts
-    requires { ⌜ (wellFormed s ≡ true) × (x .seq ≡ s .next) × (tokenFormed (x .token) ≡ true) × (pathFormed (x .«has_path») (x .path) ≡ true) ⌝ }
-    ensures { λ r. ⌜ issuedIn s r ≡ issuedOf (S.issue (x .cid) (tokenView (x .token)) advertise (given (x .«has_path») (x .path)) (view s) (withRpt rpt (view s))) ⌝ }
+fn issue_step(s: Ids, retire_prior_to: u64, x: Item, advertise: bool) -> IssuedParts
+    requires { ⌜ (wellFormed s ≡ true) × (x .seq ≡ s .«next_scid_seq») × (tokenFormed (x .token) ≡ true) × (pathFormed (x .«has_path») (x .path) ≡ true) ⌝ }
+    ensures { λ r. ⌜ issuedIn s r ≡ issuedOf (S.issue (x .cid) (tokenView (x .token)) advertise (given (x .«has_path») (x .path)) (view s) (withRetirePriorTo «retire_prior_to» (view s))) ⌝ }
 {
     let k = x.token;
     if !k.present {
-        return none_issued(s, rpt, INTERNAL_ERROR);
+        return none_issued(s, retire_prior_to, INTERNAL_ERROR);
     }
-    let t = s.source;
-    if s.capacity <= t.count {
-        return none_issued(s, rpt, CONNECTION_ID_LIMIT_ERROR);
+    let t = s.scids;
+    if s.scid_capacity <= t.count {
+        return none_issued(s, retire_prior_to, CONNECTION_ID_LIMIT_ERROR);
     }
-    let q = s.advertise;
+    let q = s.scids_to_advertise;
     let full = advertise & (QUEUE_SLOTS <= q.count);
     if full {
-        return none_issued(s, s.rpt, NO_SLOT);
+        return none_issued(s, s.retire_prior_to, NO_SLOT);
     }
-    let seq = s.next;
+    let seq = s.next_scid_seq;
     let a = marks::marked(q, seq, advertise);
     let d = tables::append(t, x);
     let next = seq + 1;
     IssuedParts {
-        source: d,
-        advertise: a,
-        next: next,
-        rpt: rpt,
+        scids: d,
+        scids_to_advertise: a,
+        next_scid_seq: next,
+        retire_prior_to: retire_prior_to,
         answer: Counted {
             refusal: ACCEPTED,
             number: seq,
@@ -88,47 +88,47 @@ pub fn add_scid_step(
     cid: ConnectionId,
     token: Token,
     advertise: bool,
-    has: bool,
+    has_path: bool,
     path: u64,
-    leave: bool,
+    retire_if_needed: bool,
 ) -> IssuedParts
-    requires { ⌜ (wellFormed s ≡ true) × (tokenFormed token ≡ true) × (pathFormed has path ≡ true) ⌝ }
-    ensures { λ r. ⌜ issuedIn s r ≡ issuedOf (S.addScid cid (tokenView token) advertise (given has path) leave (view s)) ⌝ }
+    requires { ⌜ (wellFormed s ≡ true) × (tokenFormed token ≡ true) × (pathFormed «has_path» path ≡ true) ⌝ }
+    ensures { λ r. ⌜ issuedIn s r ≡ issuedOf (S.addScid cid (tokenView token) advertise (given «has_path» path) «retire_if_needed» (view s)) ⌝ }
 {
-    if s.zero_source {
-        return none_issued(s, s.rpt, INTERNAL_ERROR);
+    if s.zero_length_scid {
+        return none_issued(s, s.retire_prior_to, INTERNAL_ERROR);
     }
-    if MAX_SEQUENCE <= s.next {
-        return none_issued(s, s.rpt, SPENT);
+    if MAX_SEQUENCE <= s.next_scid_seq {
+        return none_issued(s, s.retire_prior_to, SPENT);
     }
     let x = Item {
-        seq: s.next,
+        seq: s.next_scid_seq,
         path: path,
         cid: cid,
         token: token,
-        has_path: has,
+        has_path: has_path,
     };
-    let t = s.source;
+    let t = s.scids;
     let n = t.count as u64;
-    if n < s.slimit {
-        return issue_step(s, s.rpt, x, advertise);
+    if n < s.scid_limit {
+        return issue_step(s, s.retire_prior_to, x, advertise);
     }
-    if !leave {
-        return none_issued(s, s.rpt, CONNECTION_ID_LIMIT_ERROR);
+    if !retire_if_needed {
+        return none_issued(s, s.retire_prior_to, CONNECTION_ID_LIMIT_ERROR);
     }
-    let low = tables::lowest_from(t, s.rpt);
+    let low = tables::lowest_from(t, s.retire_prior_to);
     match low {
         Lowest::Seq(m) => issue_step(s, m + 1, x, advertise),
-        Lowest::Missing => none_issued(s, s.rpt, INTERNAL_ERROR),
+        Lowest::Missing => none_issued(s, s.retire_prior_to, INTERNAL_ERROR),
     }
 }
 
-pub fn none_freed(t: Table, rpt: u64, n: u8) -> FreedParts
-    ensures { λ r. ⌜ r ≡ freeNone n t rpt ⌝ }
+pub fn none_freed(t: Table, retire_prior_to: u64, n: u8) -> FreedParts
+    ensures { λ r. ⌜ r ≡ freeNone n t «retire_prior_to» ⌝ }
 {
     FreedParts {
-        source: t,
-        rpt: rpt,
+        scids: t,
+        retire_prior_to: retire_prior_to,
         answer: Numbered {
             refusal: n,
             present: false,
@@ -139,27 +139,27 @@ pub fn none_freed(t: Table, rpt: u64, n: u8) -> FreedParts
 
 // The item x, at i, is taken out before its ID is held against the packet's, as in the Rust.
 fn take_step(s: Ids, seq: u64, x: Item, i: usize, packet: ConnectionId) -> FreedParts
-    requires { ⌜ (wellFormed s ≡ true) × (firstWith (T.hasSeq seq) (T.live (s .source)) ≡ some i) × (x ≡ getD (T.live (s .source)) i T.zeroItem) ⌝ }
-    ensures { λ r. ⌜ freedIn s r ≡ freedOf (S.taken (itemView (getD (T.live (s .source)) i T.zeroItem)) packet (withScids (S.without seq (view s .scids)) (view s))) ⌝ }
+    requires { ⌜ (wellFormed s ≡ true) × (firstWith (T.hasSeq seq) (T.live (s .scids)) ≡ some i) × (x ≡ getD (T.live (s .scids)) i T.zeroItem) ⌝ }
+    ensures { λ r. ⌜ freedIn s r ≡ freedOf (S.taken (itemView (getD (T.live (s .scids)) i T.zeroItem)) packet (withScids (S.without seq (view s .scids)) (view s))) ⌝ }
 {
-    let t = s.source;
+    let t = s.scids;
     let rest = tables::remove_at(t, i);
     let id = x.cid;
     if values::cid_eq(id, packet) {
-        return none_freed(rest, s.rpt, PROTOCOL_VIOLATION);
+        return none_freed(rest, s.retire_prior_to, PROTOCOL_VIOLATION);
     }
-    let low = tables::lowest_from(rest, s.rpt);
+    let low = tables::lowest_from(rest, s.retire_prior_to);
     match low {
         Lowest::Seq(m) => FreedParts {
-            source: rest,
-            rpt: m,
+            scids: rest,
+            retire_prior_to: m,
             answer: Numbered {
                 refusal: ACCEPTED,
                 present: x.has_path,
                 number: x.path,
             },
         },
-        Lowest::Missing => none_freed(rest, s.rpt, INTERNAL_ERROR),
+        Lowest::Missing => none_freed(rest, s.retire_prior_to, INTERNAL_ERROR),
     }
 }
 
@@ -167,16 +167,16 @@ pub fn retire_scid_step(s: Ids, seq: u64, packet: ConnectionId) -> FreedParts
     requires { ⌜ wellFormed s ≡ true ⌝ }
     ensures { λ r. ⌜ freedIn s r ≡ freedOf (S.retireScid seq packet (view s)) ⌝ }
 {
-    let t = s.source;
-    if s.next <= seq {
-        return none_freed(t, s.rpt, PROTOCOL_VIOLATION);
+    let t = s.scids;
+    if s.next_scid_seq <= seq {
+        return none_freed(t, s.retire_prior_to, PROTOCOL_VIOLATION);
     }
     let f = tables::seek_seq(t, seq);
     if !f.present {
-        return none_freed(t, s.rpt, ACCEPTED);
+        return none_freed(t, s.retire_prior_to, ACCEPTED);
     }
     if t.count <= 1 {
-        return none_freed(t, s.rpt, INTERNAL_ERROR);
+        return none_freed(t, s.retire_prior_to, INTERNAL_ERROR);
     }
     let x = f.item;
     take_step(s, seq, x, f.place, packet)

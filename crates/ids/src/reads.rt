@@ -161,9 +161,9 @@ pub fn no_frame(n: u8) -> FrameAnswer
 }
 
 // The frame that announces the source ID with the sequence.
-pub fn frame(t: Table, rpt: u64, seq: u64) -> FrameAnswer
+pub fn frame(t: Table, retire_prior_to: u64, seq: u64) -> FrameAnswer
     requires { ⌜ TableWell t ⌝ }
-    ensures { λ r. ⌜ r ≡ frameOf (maybe (first (hasSeq seq) (map itemView (live t))) says2 (λ x. maybe (x .token) says2 (λ k. says (W.Frame seq rpt (x .cid) k)))) ⌝ }
+    ensures { λ r. ⌜ r ≡ frameOf (maybe (first (hasSeq seq) (map itemView (live t))) says2 (λ x. maybe (x .token) says2 (λ k. says (W.Frame seq «retire_prior_to» (x .cid) k)))) ⌝ }
 {
     let f = tables::seek_seq(t, seq);
     if f.present {
@@ -177,7 +177,7 @@ pub fn frame(t: Table, rpt: u64, seq: u64) -> FrameAnswer
         return FrameAnswer {
             refusal: ACCEPTED,
             seq: seq,
-            retire_prior_to: rpt,
+            retire_prior_to: retire_prior_to,
             cid: cid,
             token: bytes,
         };

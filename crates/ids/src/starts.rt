@@ -22,56 +22,56 @@ pub fn zero_state() -> Ids
     let t = tables::no_items();
     let q = tables::no_entries();
     Ids {
-        source: t,
-        destination: t,
-        capacity: 0,
-        dlimit: 0,
-        slimit: 0,
-        zero_source: false,
-        zero_destination: false,
-        next: 0,
-        rpt: 0,
-        largest: 0,
-        advertise: q,
-        retire: q,
+        scids: t,
+        dcids: t,
+        scid_capacity: 0,
+        dcid_limit: 0,
+        scid_limit: 0,
+        zero_length_scid: false,
+        zero_length_dcid: false,
+        next_scid_seq: 0,
+        retire_prior_to: 0,
+        largest_peer_retire_prior_to: 0,
+        scids_to_advertise: q,
+        dcids_to_retire: q,
     }
 }
 
 // A table with one item, of sequence 0.
-pub fn only(cid: ConnectionId, token: Token, has: bool, path: u64) -> Table
-    ensures { λ r. ⌜ r ≡ tableOf (record { seq = 0; path = path; cid = cid; token = token; «has_path» = has } ∷ []) ⌝ }
+pub fn only(cid: ConnectionId, token: Token, has_path: bool, path: u64) -> Table
+    ensures { λ r. ⌜ r ≡ tableOf (record { seq = 0; path = path; cid = cid; token = token; «has_path» = «has_path» } ∷ []) ⌝ }
 {
     let x = Item {
         seq: 0,
         path: path,
         cid: cid,
         token: token,
-        has_path: has,
+        has_path: has_path,
     };
     let none = tables::no_items();
     tables::append(none, x)
 }
 
-pub fn first_state(dlimit: u64, cid: ConnectionId, path: u64, token: Token) -> Ids
+pub fn first_state(dcid_limit: u64, cid: ConnectionId, path: u64, token: Token) -> Ids
     requires { ⌜ tokenFormed token ≡ true ⌝ }
-    ensures { λ r. ⌜ r ≡ idsOf (S.fresh dlimit cid path (tokenView token)) ⌝ }
+    ensures { λ r. ⌜ r ≡ idsOf (S.fresh «dcid_limit» cid path (tokenView token)) ⌝ }
 {
     let one = only(cid, token, true, path);
     let none = tables::no_items();
     let q = tables::no_entries();
     Ids {
-        source: one,
-        destination: none,
-        capacity: 3,
-        dlimit: dlimit,
-        slimit: 2,
-        zero_source: cid.len == 0,
-        zero_destination: false,
-        next: 1,
-        rpt: 0,
-        largest: 0,
-        advertise: q,
-        retire: q,
+        scids: one,
+        dcids: none,
+        scid_capacity: 3,
+        dcid_limit: dcid_limit,
+        scid_limit: 2,
+        zero_length_scid: cid.len == 0,
+        zero_length_dcid: false,
+        next_scid_seq: 1,
+        retire_prior_to: 0,
+        largest_peer_retire_prior_to: 0,
+        scids_to_advertise: q,
+        dcids_to_retire: q,
     }
 }
 

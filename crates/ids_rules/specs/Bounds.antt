@@ -11,7 +11,7 @@ use Rattle.values.specs.Cid.{cidNew, zeroId}
 use Rattle.values.specs.Limits.{tokenLen}
 use Rattle.ids_rules.specs.Values.{Item, onPath}
 use Rattle.ids_rules.specs.View.{View, Out, Answer, Nothing, Issued, Freed, Retired, Whole, Maybe, Found, Number, Perhaps, Flag, Frame, refused, accepted}
-use Rattle.ids_rules.specs.View.{withScids, withDcids, withDlimit, withSlimit, withScap, withZeroScid, withZeroDcid, withNext, withRpt, withLargest, withAdvertise, withRetire}
+use Rattle.ids_rules.specs.With.{withScids, withDcids, withDcidLimit, withScidLimit, withScidCapacity, withZeroLengthScid, withZeroLengthDcid, withNextScidSeq, withRetirePriorTo, withLargestPeerRetirePriorTo, withScidsToAdvertise, withDcidsToRetire}
 use Rattle.ids_rules.specs.Steps.{fresh, freshCall, zeroView}
 use Rattle.ids_rules.specs.Well.{well}
 use Rattle.ids_rules.specs.Calls.{Call, SetInitialDcid, SetScidLimit, AddScid, RetireScid, AddDcid, MarkScidUsed, MarkDcidUsed, MarkScidToAdvertise, MarkDcidToRetire, Ask, apply}
@@ -76,32 +76,32 @@ abbrev one : View
 one = fresh 2 (cid 50) 0 none
 
 abbrev two : View
-two = withScids (first ∷ item 1 ∷ []) (withNext 2 one)
+two = withScids (first ∷ item 1 ∷ []) (withNextScidSeq 2 one)
 
 abbrev three : View
-three = withScids (first ∷ item 1 ∷ item 2 ∷ []) (withNext 3 (withRpt 1 one))
+three = withScids (first ∷ item 1 ∷ item 2 ∷ []) (withNextScidSeq 3 (withRetirePriorTo 1 one))
 
 abbrev zero : View
 zero = fresh 2 zeroId 0 none
 
 abbrev sevens : ℕ → View → View
-sevens n v = withAdvertise (replicate n 7) v
+sevens n v = withScidsToAdvertise (replicate n 7) v
 
 -- with token, advertise and leave to retire: the ID of sequence n
 abbrev add : ℕ → Bool → Bool → Call
-add n advertise leave = AddScid (cid n) (some token) advertise none leave
+add n advertise retireIfNeeded = AddScid (cid n) (some token) advertise none retireIfNeeded
 
 abbrev addBare : Bool → Bool → Call
-addBare advertise leave = AddScid (cid 1) none advertise none leave
+addBare advertise retireIfNeeded = AddScid (cid 1) none advertise none retireIfNeeded
 
 -- ---- fresh, and the limit
 
 -- the limit 0, 1, 16, 17; an ID that is too long, not zero past its length, of length 20, empty
-pub fresh-rows : map (λ (n : ℕ). freshCall n (cid 50) 0 none) (0 ∷ 1 ∷ 16 ∷ 17 ∷ []) ≡ refused 1 zeroView ∷ accepted Nothing (withDlimit 1 one) ∷ accepted Nothing (withDlimit 16 one) ∷ refused 1 zeroView ∷ []
+pub fresh-rows : map (λ (n : ℕ). freshCall n (cid 50) 0 none) (0 ∷ 1 ∷ 16 ∷ 17 ∷ []) ≡ refused 1 zeroView ∷ accepted Nothing (withDcidLimit 1 one) ∷ accepted Nothing (withDcidLimit 16 one) ∷ refused 1 zeroView ∷ []
 fresh-rows = refl
 
 pub fresh-ids : map (λ (c : ConnectionId). freshCall 2 c 0 none) (longCid ∷ dirtyCid ∷ fullCid ∷ zeroId ∷ [])
-    ≡ refused 1 zeroView ∷ refused 1 zeroView ∷ accepted Nothing (fresh 2 fullCid 0 none) ∷ accepted Nothing (withZeroScid true (withScids (record { cid = zeroId; seq = 0; token = none; path = some 0 } ∷ []) one)) ∷ []
+    ≡ refused 1 zeroView ∷ refused 1 zeroView ∷ accepted Nothing (fresh 2 fullCid 0 none) ∷ accepted Nothing (withZeroLengthScid true (withScids (record { cid = zeroId; seq = 0; token = none; path = some 0 } ∷ []) one)) ∷ []
 fresh-ids = refl
 
 abbrev pub limitRows : List Row
@@ -109,13 +109,13 @@ limitRows =
     says one (SetScidLimit 0) Nothing
     ∷ says one (SetScidLimit 1) Nothing
     ∷ says one (SetScidLimit 2) Nothing
-    ∷ gives one (SetScidLimit 3) Nothing (withSlimit 3 (withScap 5 one))
-    ∷ gives one (SetScidLimit 15) Nothing (withSlimit 15 (withScap 29 one))
-    ∷ gives one (SetScidLimit 16) Nothing (withSlimit 16 (withScap 31 one))
-    ∷ gives one (SetScidLimit 17) Nothing (withSlimit 16 (withScap 31 one))
-    ∷ gives one (SetScidLimit (2 ^ 64 - 1)) Nothing (withSlimit 16 (withScap 31 one))
+    ∷ gives one (SetScidLimit 3) Nothing (withScidLimit 3 (withScidCapacity 5 one))
+    ∷ gives one (SetScidLimit 15) Nothing (withScidLimit 15 (withScidCapacity 29 one))
+    ∷ gives one (SetScidLimit 16) Nothing (withScidLimit 16 (withScidCapacity 31 one))
+    ∷ gives one (SetScidLimit 17) Nothing (withScidLimit 16 (withScidCapacity 31 one))
+    ∷ gives one (SetScidLimit (2 ^ 64 - 1)) Nothing (withScidLimit 16 (withScidCapacity 31 one))
     -- the capacity never falls
-    ∷ gives (withSlimit 3 (withScap 5 one)) (SetScidLimit 2) Nothing (withScap 5 one)
+    ∷ gives (withScidLimit 3 (withScidCapacity 5 one)) (SetScidLimit 2) Nothing (withScidCapacity 5 one)
     ∷ []
 
 -- ---- add_scid
@@ -123,45 +123,45 @@ limitRows =
 abbrev pub addScidRows : List Row
 addScidRows =
     -- zero-length 2, before 7
-    stays (withNext (2 ^ 62) zero) (add 1 false false) 2
+    stays (withNextScidSeq (2 ^ 62) zero) (add 1 false false) 2
     -- 7: before 3, before 2 for want of a token, before 6
-    ∷ stays (withNext (2 ^ 62) two) (add 2 false false) 7
-    ∷ stays (withNext (2 ^ 62) one) (addBare false false) 7
-    ∷ stays (withNext (2 ^ 62) (sevens 128 one)) (add 1 true false) 7
-    ∷ gives (withNext (2 ^ 62 - 1) one) (add 1 false false) (Issued (2 ^ 62 - 1))
-    (withScids (first ∷ record { cid = cid 1; seq = 2 ^ 62 - 1; token = some token; path = none } ∷ []) (withNext (2 ^ 62) one))
+    ∷ stays (withNextScidSeq (2 ^ 62) two) (add 2 false false) 7
+    ∷ stays (withNextScidSeq (2 ^ 62) one) (addBare false false) 7
+    ∷ stays (withNextScidSeq (2 ^ 62) (sevens 128 one)) (add 1 true false) 7
+    ∷ gives (withNextScidSeq (2 ^ 62 - 1) one) (add 1 false false) (Issued (2 ^ 62 - 1))
+    (withScids (first ∷ record { cid = cid 1; seq = 2 ^ 62 - 1; token = some token; path = none } ∷ []) (withNextScidSeq (2 ^ 62) one))
     -- below the limit, with leave or without, Retire Prior To stays; at it, above it: 3 without leave, before 2 for want of a token
     ∷ gives one (add 1 false false) (Issued 1) two
     ∷ gives one (add 1 false true) (Issued 1) two
     ∷ stays two (add 2 false false) 3
     ∷ stays two (addBare false false) 3
     ∷ stays three (add 3 false false) 3
-    ∷ gives (withSlimit 3 (withScap 5 two)) (add 2 false false) (Issued 2) (withSlimit 3 (withScap 5 (withRpt 0 three)))
+    ∷ gives (withScidLimit 3 (withScidCapacity 5 two)) (add 2 false false) (Issued 2) (withScidLimit 3 (withScidCapacity 5 (withRetirePriorTo 0 three)))
     -- with leave: the lowest not below Retire Prior To, plus 1; none: 2, with or without a token
     ∷ gives two (add 2 false true) (Issued 2) three
-    ∷ gives (withRpt 1 two) (add 2 false true) (Issued 2) (withRpt 2 three)
-    ∷ stays (withRpt 2 two) (add 2 false true) 2
-    ∷ stays (withRpt 2 two) (addBare false true) 2
+    ∷ gives (withRetirePriorTo 1 two) (add 2 false true) (Issued 2) (withRetirePriorTo 2 three)
+    ∷ stays (withRetirePriorTo 2 two) (add 2 false true) 2
+    ∷ stays (withRetirePriorTo 2 two) (addBare false true) 2
     -- no token: 2, before full, before 6; the raised Retire Prior To stays
     ∷ stays one (addBare false false) 2
-    ∷ leaves two (addBare false true) 2 (withRpt 1 two)
-    ∷ leaves three (addBare false true) 2 (withRpt 2 three)
-    ∷ leaves (sevens 128 two) (addBare true true) 2 (withRpt 1 (sevens 128 two))
+    ∷ leaves two (addBare false true) 2 (withRetirePriorTo 1 two)
+    ∷ leaves three (addBare false true) 2 (withRetirePriorTo 2 three)
+    ∷ leaves (sevens 128 two) (addBare true true) 2 (withRetirePriorTo 1 (sevens 128 two))
     -- full: 3, before 6; the raised Retire Prior To stays
-    ∷ leaves three (add 3 false true) 3 (withRpt 2 three)
-    ∷ leaves (sevens 128 three) (add 3 true true) 3 (withRpt 2 (sevens 128 three))
-    ∷ gives (withScap 5 three) (add 3 false true) (Issued 3) (withScap 5 (withScids (first ∷ item 1 ∷ item 2 ∷ item 3 ∷ []) (withNext 4 (withRpt 2 three))))
+    ∷ leaves three (add 3 false true) 3 (withRetirePriorTo 2 three)
+    ∷ leaves (sevens 128 three) (add 3 true true) 3 (withRetirePriorTo 2 (sevens 128 three))
+    ∷ gives (withScidCapacity 5 three) (add 3 false true) (Issued 3) (withScidCapacity 5 (withScids (first ∷ item 1 ∷ item 2 ∷ item 3 ∷ []) (withNextScidSeq 4 (withRetirePriorTo 2 three))))
     -- 6 leaves the old Retire Prior To; without advertise there is none
     ∷ stays (sevens 128 one) (add 1 true false) 6
     ∷ stays (sevens 128 two) (add 2 true true) 6
-    ∷ gives (sevens 127 two) (add 2 true true) (Issued 2) (withAdvertise (replicate 127 7 ++ (2 ∷ [])) three)
+    ∷ gives (sevens 127 two) (add 2 true true) (Issued 2) (withScidsToAdvertise (replicate 127 7 ++ (2 ∷ [])) three)
     ∷ gives (sevens 128 two) (add 2 false true) (Issued 2) (sevens 128 three)
     -- with advertise one more mark; without, every earlier one out
-    ∷ gives (withAdvertise (1 ∷ 7 ∷ 1 ∷ []) one) (add 1 true false) (Issued 1) (withAdvertise (1 ∷ 7 ∷ 1 ∷ 1 ∷ []) two)
-    ∷ gives (withAdvertise (1 ∷ 7 ∷ 1 ∷ []) one) (add 1 false false) (Issued 1) (withAdvertise (7 ∷ []) two)
+    ∷ gives (withScidsToAdvertise (1 ∷ 7 ∷ 1 ∷ []) one) (add 1 true false) (Issued 1) (withScidsToAdvertise (1 ∷ 7 ∷ 1 ∷ 1 ∷ []) two)
+    ∷ gives (withScidsToAdvertise (1 ∷ 7 ∷ 1 ∷ []) one) (add 1 false false) (Issued 1) (withScidsToAdvertise (7 ∷ []) two)
     -- an ID that was issued before, an empty one; a path
-    ∷ gives one (add 50 false false) (Issued 1) (withScids (first ∷ record { cid = cid 50; seq = 1; token = some token; path = none } ∷ []) (withNext 2 one))
-    ∷ gives one (AddScid zeroId (some token) false (some 4) false) (Issued 1) (withScids (first ∷ record { cid = zeroId; seq = 1; token = some token; path = some 4 } ∷ []) (withNext 2 one))
+    ∷ gives one (add 50 false false) (Issued 1) (withScids (first ∷ record { cid = cid 50; seq = 1; token = some token; path = none } ∷ []) (withNextScidSeq 2 one))
+    ∷ gives one (AddScid zeroId (some token) false (some 4) false) (Issued 1) (withScids (first ∷ record { cid = zeroId; seq = 1; token = some token; path = some 4 } ∷ []) (withNextScidSeq 2 one))
     ∷ []
 
 -- ---- retire_scid
@@ -180,22 +180,22 @@ retireScidRows =
     ∷ says (withScids (first ∷ item 2 ∷ []) three) (RetireScid 1 (cid 99)) (Freed none)
     -- the packet's own: 4, the item out and Retire Prior To as before, also where none is left at or above it
     ∷ leaves two (RetireScid 0 (cid 50)) 4 (withScids (item 1 ∷ []) two)
-    ∷ leaves (withRpt 2 two) (RetireScid 0 (cid 50)) 4 (withScids (item 1 ∷ []) (withRpt 2 two))
+    ∷ leaves (withRetirePriorTo 2 two) (RetireScid 0 (cid 50)) 4 (withScids (item 1 ∷ []) (withRetirePriorTo 2 two))
     -- none left at or above Retire Prior To: 2, the item out; else the lowest such
-    ∷ leaves (withRpt 2 two) (RetireScid 0 (cid 99)) 2 (withScids (item 1 ∷ []) (withRpt 2 two))
-    ∷ gives (withRpt 1 two) (RetireScid 0 (cid 99)) (Freed (some 0)) (withScids (item 1 ∷ []) (withRpt 1 two))
-    ∷ gives two (RetireScid 0 (cid 99)) (Freed (some 0)) (withScids (item 1 ∷ []) (withRpt 1 two))
-    ∷ gives three (RetireScid 1 (cid 99)) (Freed none) (withScids (first ∷ item 2 ∷ []) (withRpt 2 three))
+    ∷ leaves (withRetirePriorTo 2 two) (RetireScid 0 (cid 99)) 2 (withScids (item 1 ∷ []) (withRetirePriorTo 2 two))
+    ∷ gives (withRetirePriorTo 1 two) (RetireScid 0 (cid 99)) (Freed (some 0)) (withScids (item 1 ∷ []) (withRetirePriorTo 1 two))
+    ∷ gives two (RetireScid 0 (cid 99)) (Freed (some 0)) (withScids (item 1 ∷ []) (withRetirePriorTo 1 two))
+    ∷ gives three (RetireScid 1 (cid 99)) (Freed none) (withScids (first ∷ item 2 ∷ []) (withRetirePriorTo 2 three))
     ∷ gives three (RetireScid 2 (cid 99)) (Freed none) (withScids (first ∷ item 1 ∷ []) three)
     -- a mark outlives its item
-    ∷ gives (withAdvertise (1 ∷ []) two) (RetireScid 1 (cid 99)) (Freed none) (withScids (first ∷ []) (withAdvertise (1 ∷ []) two))
+    ∷ gives (withScidsToAdvertise (1 ∷ []) two) (RetireScid 1 (cid 99)) (Freed none) (withScids (first ∷ []) (withScidsToAdvertise (1 ∷ []) two))
     ∷ []
 
 -- ---- destination views, of limit 2, capacity 3
 
 -- items, the largest Retire Prior To, the retire queue
 abbrev holds : List Item → ℕ → List ℕ → View
-holds l r q = withDcids l (withLargest r (withRetire q one))
+holds l r q = withDcids l (withLargestPeerRetirePriorTo r (withDcidsToRetire q one))
 
 abbrev old : ℕ → List ℕ
 old n = replicate n 1000
@@ -210,17 +210,17 @@ zeroItem = record { cid = zeroId; seq = 0; token = some token; path = none }
 abbrev pub initialRows : List Row
 initialRows =
     -- the table is emptied, the queues and the largest stay; the mark is that of the new ID
-    gives (withAdvertise (1 ∷ []) (holds (item 4 ∷ busy 5 6 ∷ []) 4 (3 ∷ []))) (SetInitialDcid (cid 0) none (some 3)) Nothing
-    (withAdvertise (1 ∷ []) (holds (record { cid = cid 0; seq = 0; token = none; path = some 3 } ∷ []) 4 (3 ∷ [])))
-    ∷ gives one (SetInitialDcid zeroId (some token) none) Nothing (withZeroDcid true (holds (zeroItem ∷ []) 0 []))
-    ∷ gives (withZeroDcid true (holds (zeroItem ∷ []) 0 [])) (SetInitialDcid (cid 0) (some token) none) Nothing (holds (item 0 ∷ []) 0 [])
+    gives (withScidsToAdvertise (1 ∷ []) (holds (item 4 ∷ busy 5 6 ∷ []) 4 (3 ∷ []))) (SetInitialDcid (cid 0) none (some 3)) Nothing
+    (withScidsToAdvertise (1 ∷ []) (holds (record { cid = cid 0; seq = 0; token = none; path = some 3 } ∷ []) 4 (3 ∷ [])))
+    ∷ gives one (SetInitialDcid zeroId (some token) none) Nothing (withZeroLengthDcid true (holds (zeroItem ∷ []) 0 []))
+    ∷ gives (withZeroLengthDcid true (holds (zeroItem ∷ []) 0 [])) (SetInitialDcid (cid 0) (some token) none) Nothing (holds (item 0 ∷ []) 0 [])
     ∷ []
 
 abbrev pub addDcidRows : List Row
 addDcidRows =
     -- zero-length: 4, also for a repeat
-    stays (withZeroDcid true (holds (zeroItem ∷ []) 0 [])) (peer 1 0) 4
-    ∷ stays (withZeroDcid true (holds (zeroItem ∷ []) 0 [])) (AddDcid zeroId 0 token 0) 4
+    stays (withZeroLengthDcid true (holds (zeroItem ∷ []) 0 [])) (peer 1 0) 4
+    ∷ stays (withZeroLengthDcid true (holds (zeroItem ∷ []) 0 [])) (AddDcid zeroId 0 token 0) 4
     -- equal ID or sequence: sequence, ID or token differs, a token is absent: 4. None differs: success, before Retire Prior To is read and before a late sequence is queued
     ∷ stays (holds (item 1 ∷ []) 0 []) (AddDcid (cid 1) 2 token 0) 4
     ∷ stays (holds (item 1 ∷ []) 0 []) (AddDcid (cid 2) 1 token 0) 4
@@ -278,12 +278,12 @@ markRows =
     ∷ gives (holds (item 1 ∷ busy 2 4 ∷ []) 0 []) (MarkDcidUsed 2 5) Nothing (holds (item 1 ∷ busy 2 5 ∷ []) 0 [])
     -- on: 6 at 128; a repeat, a sequence that is unknown
     ∷ stays (sevens 128 one) (MarkScidToAdvertise 3 true) 6
-    ∷ gives (sevens 127 one) (MarkScidToAdvertise 3 true) Nothing (withAdvertise (replicate 127 7 ++ (3 ∷ [])) one)
-    ∷ gives (withAdvertise (7 ∷ 3 ∷ []) one) (MarkScidToAdvertise 7 true) Nothing (withAdvertise (7 ∷ 3 ∷ 7 ∷ []) one)
+    ∷ gives (sevens 127 one) (MarkScidToAdvertise 3 true) Nothing (withScidsToAdvertise (replicate 127 7 ++ (3 ∷ [])) one)
+    ∷ gives (withScidsToAdvertise (7 ∷ 3 ∷ []) one) (MarkScidToAdvertise 7 true) Nothing (withScidsToAdvertise (7 ∷ 3 ∷ 7 ∷ []) one)
     -- off: every equal one out, also at 128
     ∷ gives (sevens 128 one) (MarkScidToAdvertise 7 false) Nothing one
-    ∷ gives (withAdvertise (7 ∷ 3 ∷ 7 ∷ []) one) (MarkScidToAdvertise 7 false) Nothing (withAdvertise (3 ∷ []) one)
-    ∷ says (withAdvertise (7 ∷ 3 ∷ 7 ∷ []) one) (MarkScidToAdvertise 4 false) Nothing
+    ∷ gives (withScidsToAdvertise (7 ∷ 3 ∷ 7 ∷ []) one) (MarkScidToAdvertise 7 false) Nothing (withScidsToAdvertise (3 ∷ []) one)
+    ∷ says (withScidsToAdvertise (7 ∷ 3 ∷ 7 ∷ []) one) (MarkScidToAdvertise 4 false) Nothing
     ∷ stays (holds [] 0 (old 128)) (MarkDcidToRetire 3 true) 6
     ∷ gives (holds [] 0 (old 127)) (MarkDcidToRetire 3 true) Nothing (holds [] 0 (old 127 ++ (3 ∷ [])))
     ∷ gives (holds (item 3 ∷ []) 0 (3 ∷ [])) (MarkDcidToRetire 3 true) Nothing (holds (item 3 ∷ []) 0 (3 ∷ 3 ∷ []))
@@ -296,11 +296,11 @@ markRows =
 
 -- a view with source items 0 and 1, destination items 4, 2 and 1, of which 1 is on path 6, and both queues
 abbrev pub read : View
-read = withScids (first ∷ busy 1 5 ∷ []) (withAdvertise (7 ∷ 8 ∷ []) (withDcids (item 4 ∷ item 2 ∷ busy 1 6 ∷ []) (withRetire (9 ∷ 3 ∷ []) two)))
+read = withScids (first ∷ busy 1 5 ∷ []) (withScidsToAdvertise (7 ∷ 8 ∷ []) (withDcids (item 4 ∷ item 2 ∷ busy 1 6 ∷ []) (withDcidsToRetire (9 ∷ 3 ∷ []) two)))
 
 -- a view with both zero-length marks
 abbrev pub blank : View
-blank = withZeroDcid true (withDcids (zeroItem ∷ []) zero)
+blank = withZeroLengthDcid true (withDcids (zeroItem ∷ []) zero)
 
 abbrev pub queryRows : List Row
 queryRows =
@@ -328,7 +328,7 @@ queryRows =
     ∷ stays read (Ask (CreateNewConnectionIdFrame 2)) 2
     ∷ stays read (Ask (CreateNewConnectionIdFrame 0)) 2
     ∷ says read (Ask (CreateNewConnectionIdFrame 1)) (Frame 1 0 (cid 1) token)
-    ∷ says (withRpt 2 read) (Ask (CreateNewConnectionIdFrame 1)) (Frame 1 2 (cid 1) token)
+    ∷ says (withRetirePriorTo 2 read) (Ask (CreateNewConnectionIdFrame 1)) (Frame 1 2 (cid 1) token)
     -- one queue is enough
     ∷ says read (Ask NeedSendCidControlFrames) (Flag true)
     ∷ says (sevens 1 one) (Ask NeedSendCidControlFrames) (Flag true)
@@ -337,8 +337,8 @@ queryRows =
     -- the two marks are two
     ∷ says zero (Ask ZeroLengthScid) (Flag true)
     ∷ says zero (Ask ZeroLengthDcid) (Flag false)
-    ∷ says (withZeroDcid true one) (Ask ZeroLengthScid) (Flag false)
-    ∷ says (withZeroDcid true one) (Ask ZeroLengthDcid) (Flag true)
+    ∷ says (withZeroLengthDcid true one) (Ask ZeroLengthScid) (Flag false)
+    ∷ says (withZeroLengthDcid true one) (Ask ZeroLengthDcid) (Flag true)
     ∷ says read (Ask ScidCount) (Number 2)
     ∷ says read (Ask DcidCount) (Number 3)
     ∷ says one (Ask DcidCount) (Number 0)
@@ -416,19 +416,19 @@ count n = map item (upTo n [])
 
 abbrev pub atBounds : List View
 atBounds =
-    withDlimit 1 one ∷ withDlimit 16 one ∷ withSlimit 16 (withScap 31 one) ∷ withScap 31 one
-    ∷ withNext 3 (withScids (count 3) one) ∷ withNext 5 (withScids (bare 0 ∷ item 4 ∷ []) one) ∷ withNext (2 ^ 62) one ∷ withRpt 1 one
-    ∷ withDcids (count 3) one ∷ withDcids (bare 0 ∷ []) one ∷ withScids (record { cid = fullCid; seq = 0; token = none; path = none } ∷ []) one ∷ sevens 128 one ∷ withRetire (replicate 128 7) one ∷ []
+    withDcidLimit 1 one ∷ withDcidLimit 16 one ∷ withScidLimit 16 (withScidCapacity 31 one) ∷ withScidCapacity 31 one
+    ∷ withNextScidSeq 3 (withScids (count 3) one) ∷ withNextScidSeq 5 (withScids (bare 0 ∷ item 4 ∷ []) one) ∷ withNextScidSeq (2 ^ 62) one ∷ withRetirePriorTo 1 one
+    ∷ withDcids (count 3) one ∷ withDcids (bare 0 ∷ []) one ∷ withScids (record { cid = fullCid; seq = 0; token = none; path = none } ∷ []) one ∷ sevens 128 one ∷ withDcidsToRetire (replicate 128 7) one ∷ []
 
 abbrev pub broken : List View
 broken =
-    withDlimit 0 one ∷ withDlimit 17 one ∷ withSlimit 1 one ∷ withScap 4 one ∷ withSlimit 3 one ∷ withScap 33 one
-    ∷ withScids [] one ∷ withNext 4 (withScids (count 4) one) ∷ withNext 3 (withScids (item 0 ∷ item 2 ∷ item 1 ∷ []) one) ∷ withNext 3 (withScids (item 0 ∷ item 2 ∷ item 2 ∷ []) one)
-    ∷ withNext 4 (withScids (bare 0 ∷ item 4 ∷ []) one) ∷ withNext 5 (withScids (bare 0 ∷ bare 4 ∷ []) one) ∷ withNext (2 ^ 62 + 1) one ∷ withRpt 2 one
+    withDcidLimit 0 one ∷ withDcidLimit 17 one ∷ withScidLimit 1 one ∷ withScidCapacity 4 one ∷ withScidLimit 3 one ∷ withScidCapacity 33 one
+    ∷ withScids [] one ∷ withNextScidSeq 4 (withScids (count 4) one) ∷ withNextScidSeq 3 (withScids (item 0 ∷ item 2 ∷ item 1 ∷ []) one) ∷ withNextScidSeq 3 (withScids (item 0 ∷ item 2 ∷ item 2 ∷ []) one)
+    ∷ withNextScidSeq 4 (withScids (bare 0 ∷ item 4 ∷ []) one) ∷ withNextScidSeq 5 (withScids (bare 0 ∷ bare 4 ∷ []) one) ∷ withNextScidSeq (2 ^ 62 + 1) one ∷ withRetirePriorTo 2 one
     ∷ withDcids (count 4) one ∷ withDcids (item 1 ∷ record { cid = cid 2; seq = 1; token = some token; path = none } ∷ []) one
     ∷ withDcids (item 1 ∷ record { cid = cid 1; seq = 2; token = some token; path = none } ∷ []) one ∷ withDcids (bare 1 ∷ []) one
     ∷ withDcids (record { cid = longCid; seq = 1; token = some token; path = none } ∷ []) one ∷ withScids (record { cid = dirtyCid; seq = 0; token = none; path = none } ∷ []) one
-    ∷ sevens 129 one ∷ withRetire (replicate 129 7) one ∷ []
+    ∷ sevens 129 one ∷ withDcidsToRetire (replicate 129 7) one ∷ []
 
 pub at-bounds-well : map well atBounds ≡ replicate 13 true
 at-bounds-well = refl

@@ -34,7 +34,7 @@ pub data Query : Type 0 where
 pub data Call : Type 0 where
   SetInitialDcid : ConnectionId → (token : Option (List ℕ)) (path : Option ℕ) → Call
   SetScidLimit : ℕ → Call
-  AddScid : ConnectionId → (token : Option (List ℕ)) (advertise : Bool) (path : Option ℕ) (leave : Bool) → Call
+  AddScid : ConnectionId → (token : Option (List ℕ)) (advertise : Bool) (path : Option ℕ) (retireIfNeeded : Bool) → Call
   RetireScid : (seq : ℕ) → (packet : ConnectionId) → Call
   AddDcid : ConnectionId → (seq : ℕ) (token : List ℕ) (retirePriorTo : ℕ) → Call
   MarkScidUsed : (seq path : ℕ) → Call
@@ -60,14 +60,14 @@ reply v (GetScid s) = maybe (first (hasSeq s) (v .scids)) says2 (λ x. says (Who
 reply v (GetDcid s) = maybe (first (hasSeq s) (v .dcids)) says2 (λ x. says (Whole x))
 reply v (FindScid c) = says (maybe (first (hasCid c) (v .scids)) Nothing (λ x. Found (x .seq) (x .path)))
 reply v UnusedScids = says (Number (length (keep unused (v .scids))))
-reply v UnusedDcids = says (Number (cond (v .zeroDcid) 0 (length (keep unused (v .dcids)))))
+reply v UnusedDcids = says (Number (cond (v .zeroLengthDcid) 0 (length (keep unused (v .dcids)))))
 reply v LowestUnusedDcidSeq = says (Perhaps (least (map seqOf (keep unused (v .dcids)))))
-reply v NextScidToAdvertise = says (Perhaps (front (v .advertise)))
-reply v NextDcidToRetire = says (Perhaps (front (v .retire)))
-reply v (CreateNewConnectionIdFrame s) = maybe (first (hasSeq s) (v .scids)) says2 (λ x. maybe (x .token) says2 (λ t. says (Frame s (v .rpt) (x .cid) t)))
-reply v NeedSendCidControlFrames = says (Flag (not (empty (v .retire)) || not (empty (v .advertise))))
-reply v ZeroLengthScid = says (Flag (v .zeroScid))
-reply v ZeroLengthDcid = says (Flag (v .zeroDcid))
+reply v NextScidToAdvertise = says (Perhaps (front (v .scidsToAdvertise)))
+reply v NextDcidToRetire = says (Perhaps (front (v .dcidsToRetire)))
+reply v (CreateNewConnectionIdFrame s) = maybe (first (hasSeq s) (v .scids)) says2 (λ x. maybe (x .token) says2 (λ t. says (Frame s (v .retirePriorTo) (x .cid) t)))
+reply v NeedSendCidControlFrames = says (Flag (not (empty (v .dcidsToRetire)) || not (empty (v .scidsToAdvertise))))
+reply v ZeroLengthScid = says (Flag (v .zeroLengthScid))
+reply v ZeroLengthDcid = says (Flag (v .zeroLengthDcid))
 reply v ScidCount = says (Number (length (v .scids)))
 reply v (ScidAt i) = says (Maybe (at i (v .scids)))
 reply v DcidCount = says (Number (length (v .dcids)))
@@ -97,7 +97,7 @@ queryFormed (DcidAt i) = true
 abbrev pub callFormed : Call → Bool
 callFormed (SetInitialDcid cid token path) = idFormed cid
 callFormed (SetScidLimit n) = true
-callFormed (AddScid cid token advertise path leave) = idFormed cid
+callFormed (AddScid cid token advertise path retireIfNeeded) = idFormed cid
 callFormed (RetireScid s packet) = idFormed packet
 callFormed (AddDcid cid s token b) = idFormed cid
 callFormed (MarkScidUsed s p) = true
@@ -109,7 +109,7 @@ callFormed (Ask q) = queryFormed q
 abbrev pub step : View → Call → Out
 step v (SetInitialDcid cid token path) = setInitialDcid cid token path v
 step v (SetScidLimit n) = setScidLimit n v
-step v (AddScid cid token advertise path leave) = addScid cid token advertise path leave v
+step v (AddScid cid token advertise path retireIfNeeded) = addScid cid token advertise path retireIfNeeded v
 step v (RetireScid s packet) = retireScid s packet v
 step v (AddDcid cid s token b) = addDcid cid s token b v
 step v (MarkScidUsed s p) = markScidUsed s p v

@@ -15,7 +15,8 @@ use Rattle.values.specs.declared.cid.ConnectionId.{ConnectionId}
 use Rattle.values.specs.Limits.{maxCidsCount, maxDcidLimit, maxSequence, minScidLimit, queueSlots, tableSlots}
 use Rattle.values.specs.Cid.{idFormed}
 use Rattle.ids_rules.specs.Values.{Item, onPath, seqOf, hasSeq, from, clashes, itemFormed}
-use Rattle.ids_rules.specs.View.{View, Out, dcap, withScids, withDcids, withRpt, withRetire}
+use Rattle.ids_rules.specs.View.{View, Out, dcap}
+use Rattle.ids_rules.specs.With.{withScids, withDcids, withRetirePriorTo, withDcidsToRetire}
 use Rattle.ids_rules.specs.Steps.{lowestFrom, marked, sole, without, lowered, used}
 use Rattle.ids_rules.specs.Ends.{Raised, spare, lifts, AddScidEnds, refuses, raises, issues, RetireScidEnds, unissued, only, absent, out, frees, AddDcidEnds, rejects, again, late4, late, lowers, renews, adds, queued, add-scid-ends, retire-scid-ends, add-dcid-ends}
 use Rattle.ids_rules.specs.Well.{rising, distinct, limits, source, destination, queues, well}
@@ -23,26 +24,26 @@ use Rattle.ids_rules.specs.Calls.{Call, SetInitialDcid, SetScidLimit, Ad
 use Rattle.ids_rules.specs.Laws.{decided, both-and, or-neither, every-is, is-every, all-append, all-keep, all-moved, any-moved, none-keep, none-append}
 
 -- the four groups of conjuncts, as facts
-pub record Limits (dlimit slimit scap : ℕ) : Type 0 where
-  pub dlow : 1 ≤ dlimit
-  pub dhigh : dlimit ≤ maxDcidLimit
-  pub slow : minScidLimit ≤ slimit
-  pub shigh : slimit ≤ maxCidsCount
-  pub odd : scap % 2 ≡ 1
-  pub room : 2 * slimit - 1 ≤ scap
-  pub most : scap ≤ tableSlots
+pub record Limits (dcidLimit scidLimit scidCapacity : ℕ) : Type 0 where
+  pub dlow : 1 ≤ dcidLimit
+  pub dhigh : dcidLimit ≤ maxDcidLimit
+  pub slow : minScidLimit ≤ scidLimit
+  pub shigh : scidLimit ≤ maxCidsCount
+  pub odd : scidCapacity % 2 ≡ 1
+  pub room : 2 * scidLimit - 1 ≤ scidCapacity
+  pub most : scidCapacity ≤ tableSlots
 
-pub record Source (scap next rpt : ℕ) (l : List Item) : Type 0 where
+pub record Source (scidCapacity next rpt : ℕ) (l : List Item) : Type 0 where
   pub one : 1 ≤ length l
-  pub few : length l ≤ scap
+  pub few : length l ≤ scidCapacity
   pub low : 1 ≤ next
   pub high : next ≤ maxSequence
   pub own : rpt ≤ next
   pub rises : rising 0 next l ≡ true
   pub forms : all itemFormed l ≡ true
 
-pub record Destination (dlimit : ℕ) (l : List Item) : Type 0 where
-  pub few : length l ≤ dcap dlimit
+pub record Destination (dcidLimit : ℕ) (l : List Item) : Type 0 where
+  pub few : length l ≤ dcap dcidLimit
   pub apart : distinct l ≡ true
   pub forms : all itemFormed l ≡ true
 
@@ -51,20 +52,20 @@ pub record Queues (advertise retire : List ℕ) : Type 0 where
   pub retires : length retire ≤ queueSlots
 
 pub record Well (v : View) : Type 0 where
-  pub limits : Limits (v .dlimit) (v .slimit) (v .scap)
-  pub source : Source (v .scap) (v .next) (v .rpt) (v .scids)
-  pub destination : Destination (v .dlimit) (v .dcids)
-  pub queues : Queues (v .advertise) (v .retire)
+  pub limits : Limits (v .dcidLimit) (v .scidLimit) (v .scidCapacity)
+  pub source : Source (v .scidCapacity) (v .nextScidSeq) (v .retirePriorTo) (v .scids)
+  pub destination : Destination (v .dcidLimit) (v .dcids)
+  pub queues : Queues (v .scidsToAdvertise) (v .dcidsToRetire)
 
 pub well-is : (v : View) → well v ≡ true → Well v
 well-is v e =
-    let a = and-both _ (every (queues (v .advertise) (v .retire))) e in
-    let b = and-both _ (every (destination (v .dlimit) (v .dcids))) (a .0) in
-    let c = and-both (every (limits (v .dlimit) (v .slimit) (v .scap))) (every (source (v .scap) (v .next) (v .rpt) (v .scids))) (b .0) in
-    let l = every-is (limits (v .dlimit) (v .slimit) (v .scap)) (c .0) in
-    let s = every-is (source (v .scap) (v .next) (v .rpt) (v .scids)) (c .1) in
-    let d = every-is (destination (v .dlimit) (v .dcids)) (b .1) in
-    let q = every-is (queues (v .advertise) (v .retire)) (a .1) in
+    let a = and-both _ (every (queues (v .scidsToAdvertise) (v .dcidsToRetire))) e in
+    let b = and-both _ (every (destination (v .dcidLimit) (v .dcids))) (a .0) in
+    let c = and-both (every (limits (v .dcidLimit) (v .scidLimit) (v .scidCapacity))) (every (source (v .scidCapacity) (v .nextScidSeq) (v .retirePriorTo) (v .scids))) (b .0) in
+    let l = every-is (limits (v .dcidLimit) (v .scidLimit) (v .scidCapacity)) (c .0) in
+    let s = every-is (source (v .scidCapacity) (v .nextScidSeq) (v .retirePriorTo) (v .scids)) (c .1) in
+    let d = every-is (destination (v .dcidLimit) (v .dcids)) (b .1) in
+    let q = every-is (queues (v .scidsToAdvertise) (v .dcidsToRetire)) (a .1) in
     let sf = s .1 .1 .1 .1 .1 in
     record {
       limits = omega (arith, leb-true, eqb-true);
@@ -75,10 +76,10 @@ well-is v e =
 
 pub is-well : (v : View) → Well v → well v ≡ true
 is-well v h =
-    let l : every (limits (v .dlimit) (v .slimit) (v .scap)) ≡ true = is-every (limits (v .dlimit) (v .slimit) (v .scap)) (omega (arith, h .limits, le-leb, eq-eqb)) in
-    let s : every (source (v .scap) (v .next) (v .rpt) (v .scids)) ≡ true = is-every (source (v .scap) (v .next) (v .rpt) (v .scids)) (le-leb _ _ (h .source .one), (le-leb _ _ (h .source .few), (le-leb _ _ (h .source .low), (le-leb _ _ (h .source .high), (le-leb _ _ (h .source .own), (h .source .rises, (h .source .forms, tt))))))) in
-    let d : every (destination (v .dlimit) (v .dcids)) ≡ true = is-every (destination (v .dlimit) (v .dcids)) (le-leb _ _ (h .destination .few), (h .destination .apart, (h .destination .forms, tt))) in
-    let q : every (queues (v .advertise) (v .retire)) ≡ true = is-every (queues (v .advertise) (v .retire)) (le-leb _ _ (h .queues .adverts), (le-leb _ _ (h .queues .retires), tt)) in
+    let l : every (limits (v .dcidLimit) (v .scidLimit) (v .scidCapacity)) ≡ true = is-every (limits (v .dcidLimit) (v .scidLimit) (v .scidCapacity)) (omega (arith, h .limits, le-leb, eq-eqb)) in
+    let s : every (source (v .scidCapacity) (v .nextScidSeq) (v .retirePriorTo) (v .scids)) ≡ true = is-every (source (v .scidCapacity) (v .nextScidSeq) (v .retirePriorTo) (v .scids)) (le-leb _ _ (h .source .one), (le-leb _ _ (h .source .few), (le-leb _ _ (h .source .low), (le-leb _ _ (h .source .high), (le-leb _ _ (h .source .own), (h .source .rises, (h .source .forms, tt))))))) in
+    let d : every (destination (v .dcidLimit) (v .dcids)) ≡ true = is-every (destination (v .dcidLimit) (v .dcids)) (le-leb _ _ (h .destination .few), (h .destination .apart, (h .destination .forms, tt))) in
+    let q : every (queues (v .scidsToAdvertise) (v .dcidsToRetire)) ≡ true = is-every (queues (v .scidsToAdvertise) (v .dcidsToRetire)) (le-leb _ _ (h .queues .adverts), (le-leb _ _ (h .queues .retires), tt)) in
     both-and _ _ (both-and _ _ (both-and _ _ l s) d) q
 
 -- ---- source sequences that rise
@@ -193,8 +194,8 @@ module _ (s p : ℕ) where
   used-formed : (x : Item) → itemFormed (cond (hasSeq s x) (onPath p x) x) ≡ itemFormed x
   used-formed x = decided (λ (y : Item). itemFormed y ≡ itemFormed x) (hasSeq s x) (λ e. refl) (λ e. refl)
 
-  used-source : (scap next rpt : ℕ) (l : List Item) → Source scap next rpt l → Source scap next rpt (used s p l)
-  used-source scap next rpt l h =
+  used-source : (scidCapacity next rpt : ℕ) (l : List Item) → Source scidCapacity next rpt l → Source scidCapacity next rpt (used s p l)
+  used-source scidCapacity next rpt l h =
       let n = length-map l (λ (x : Item). cond (hasSeq s x) (onPath p x) x) in
       record {
         one = rw n (h .one);
@@ -206,8 +207,8 @@ module _ (s p : ℕ) where
         forms = all-moved itemFormed _ used-formed l ∙ h .forms;
       }
 
-  used-destination : (dlimit : ℕ) (l : List Item) → Destination dlimit l → Destination dlimit (used s p l)
-  used-destination dlimit l h =
+  used-destination : (dcidLimit : ℕ) (l : List Item) → Destination dcidLimit l → Destination dcidLimit (used s p l)
+  used-destination dcidLimit l h =
       let n = length-map l (λ (x : Item). cond (hasSeq s x) (onPath p x) x) in
       record { few = rw n (h .few); apart = distinct-map _ used-seq used-cid l ∙ h .apart; forms = all-moved itemFormed _ used-formed l ∙ h .forms }
 
@@ -224,7 +225,7 @@ abbrev pub Leaves : Out → Type 0
 Leaves o = Well (o .view)
 
 -- a raised Retire Prior To
-rpt-well : (v : View) (r : ℕ) → r ≤ v .next → Well v → Well (withRpt r v)
+rpt-well : (v : View) (r : ℕ) → r ≤ v .nextScidSeq → Well v → Well (withRetirePriorTo r v)
 rpt-well v r k h = record {
   limits = h .limits;
   source = record { one = h .source .one; few = h .source .few; low = h .source .low; high = h .source .high; own = k; rises = h .source .rises; forms = h .source .forms };
@@ -232,11 +233,11 @@ rpt-well v r k h = record {
   queues = h .queues;
 }
 
-pub raised-le : (v : View) {r : ℕ} → Raised v r → Well v → r ≤ v .next
+pub raised-le : (v : View) {r : ℕ} → Raised v r → Well v → r ≤ v .nextScidSeq
 raised-le v (spare k) h = h .source .own
-raised-le v (lifts s e) h = omega (arith, lowest-below 0 (v .rpt) (v .next) (v .scids) s (h .source .rises) e)
+raised-le v (lifts s e) h = omega (arith, lowest-below 0 (v .retirePriorTo) (v .nextScidSeq) (v .scids) s (h .source .rises) e)
 
-add-well : (x : Item) (advertise : Bool) (v : View) {o : Out} → AddScidEnds x advertise v o → idFormed (x .cid) ≡ true → x .seq ≡ v .next → Well v → Well (o .view)
+add-well : (x : Item) (advertise : Bool) (v : View) {o : Out} → AddScidEnds x advertise v o → idFormed (x .cid) ≡ true → x .seq ≡ v .nextScidSeq → Well v → Well (o .view)
 add-well x advertise v (refuses n k) f q h = h
 add-well x advertise v (raises n r k t) f q h = rpt-well v r (raised-le v t h) h
 add-well x advertise v (issues r t n p l a) f q h = record {
@@ -247,11 +248,11 @@ add-well x advertise v (issues r t n p l a) f q h = record {
     low = omega arith;
     high = omega arith;
     own = omega (arith, raised-le v t h);
-    rises = rising-more 0 (v .next) (v .scids) x q (h .source .rises);
+    rises = rising-more 0 (v .nextScidSeq) (v .scids) x q (h .source .rises);
     forms = all-append itemFormed (v .scids) (x ∷ []) (h .source .forms) (rw (f, p, or-true));
   };
   destination = h .destination;
-  queues = record { adverts = marked-few (v .next) advertise (v .advertise) a (h .queues .adverts); retires = h .queues .retires };
+  queues = record { adverts = marked-few (v .nextScidSeq) advertise (v .scidsToAdvertise) a (h .queues .adverts); retires = h .queues .retires };
 }
 
 -- the item s is taken out, and another is left
@@ -261,12 +262,12 @@ out-well s v o a h =
     record {
       limits = h .limits;
       source = record {
-        one = omega (arith, leb-false (length (v .scids)) 1 two, without-one s 0 (v .next) (v .scids) (h .source .rises));
+        one = omega (arith, leb-false (length (v .scids)) 1 two, without-one s 0 (v .nextScidSeq) (v .scids) (h .source .rises));
         few = omega (arith, h .source .few, length-keep (λ (x : Item). not (hasSeq s x)) (v .scids));
         low = h .source .low;
         high = h .source .high;
         own = h .source .own;
-        rises = rising-keep _ 0 (v .next) (v .scids) (h .source .rises);
+        rises = rising-keep _ 0 (v .nextScidSeq) (v .scids) (h .source .rises);
         forms = all-keep itemFormed _ (v .scids) (h .source .forms);
       };
       destination = h .destination;
@@ -280,15 +281,15 @@ retire-well s packet v (absent e) h = h
 retire-well s packet v (out n k a e) h = out-well s v e a h
 retire-well s packet v (frees x r a e l) h =
     let w = out-well s v e a h in
-    rpt-well (withScids (without s (v .scids)) v) r (omega (arith, lowest-below 0 (v .rpt) (v .next) (without s (v .scids)) r (w .source .rises) l)) w
+    rpt-well (withScids (without s (v .scids)) v) r (omega (arith, lowest-below 0 (v .retirePriorTo) (v .nextScidSeq) (without s (v .scids)) r (w .source .rises) l)) w
 
 -- ---- destination
 
 -- the retire queue changes
-queue-well : (l : List ℕ) (v : View) → length l ≤ queueSlots → Well v → Well (withRetire l v)
+queue-well : (l : List ℕ) (v : View) → length l ≤ queueSlots → Well v → Well (withDcidsToRetire l v)
 queue-well l v k h = record { limits = h .limits; source = h .source; destination = h .destination; queues = record { adverts = h .queues .adverts; retires = k } }
 
-more-well : (x : Item) (v : View) → itemFormed x ≡ true → any (λ (y : Item). clashes y x) (v .dcids) ≡ false → length (v .dcids) < dcap (v .dlimit) → Well v → Well (withDcids (v .dcids ++ (x ∷ [])) v)
+more-well : (x : Item) (v : View) → itemFormed x ≡ true → any (λ (y : Item). clashes y x) (v .dcids) ≡ false → length (v .dcids) < dcap (v .dcidLimit) → Well v → Well (withDcids (v .dcids ++ (x ∷ [])) v)
 more-well x v f c l h = record {
   limits = h .limits;
   source = h .source;
@@ -332,7 +333,7 @@ step-well v (SetScidLimit n) f h = record {
   destination = h .destination;
   queues = h .queues;
 }
-step-well v (AddScid cid token advertise path leave) f h = add-well _ advertise v (add-scid-ends cid token advertise path v leave) f refl h
+step-well v (AddScid cid token advertise path retireIfNeeded) f h = add-well _ advertise v (add-scid-ends cid token advertise path v retireIfNeeded) f refl h
 step-well v (RetireScid s packet) f h = retire-well s packet v (retire-scid-ends s packet v) h
 step-well v (AddDcid cid s token b) f h = dcid-well _ b v (add-dcid-ends cid s token b v) (rw (f, or-true)) h
 step-well v (MarkScidUsed s p) f h =
@@ -340,8 +341,8 @@ step-well v (MarkScidUsed s p) f h =
 step-well v (MarkDcidUsed s p) f h =
     decided Leaves (any (hasSeq s) (v .dcids)) (λ e. record { limits = h .limits; source = h .source; destination = used-destination s p _ (v .dcids) (h .destination); queues = h .queues }) (λ e. h)
 step-well v (MarkScidToAdvertise s on) f h =
-    decided Leaves (on && leb queueSlots (length (v .advertise))) (λ e. h)
-    (λ q. record { limits = h .limits; source = h .source; destination = h .destination; queues = record { adverts = marked-few s on (v .advertise) q (h .queues .adverts); retires = h .queues .retires } })
+    decided Leaves (on && leb queueSlots (length (v .scidsToAdvertise))) (λ e. h)
+    (λ q. record { limits = h .limits; source = h .source; destination = h .destination; queues = record { adverts = marked-few s on (v .scidsToAdvertise) q (h .queues .adverts); retires = h .queues .retires } })
 step-well v (MarkDcidToRetire s on) f h =
-    decided Leaves (on && leb queueSlots (length (v .retire))) (λ e. h) (λ q. queue-well (marked s on (v .retire)) v (marked-few s on (v .retire) q (h .queues .retires)) h)
+    decided Leaves (on && leb queueSlots (length (v .dcidsToRetire))) (λ e. h) (λ q. queue-well (marked s on (v .dcidsToRetire)) v (marked-few s on (v .dcidsToRetire) q (h .queues .retires)) h)
 step-well v (Ask q) f h = h

@@ -1,5 +1,6 @@
 pub mod Values
 pub mod View
+pub mod With
 pub mod Steps
 pub mod Well
 pub mod Calls

@@ -27,14 +27,14 @@ use Rattle.ids_rules.specs.Promise.{starts, FreshWell, KeepsWell, NeverO
 -- ---- well formed
 
 pub fresh-well : FreshWell
-fresh-well v (starts dlimit cid path token e) = test (leb 1 dlimit && leb dlimit maxDcidLimit) (idFormed cid) refl refl e
+fresh-well v (starts dcidLimit cid path token e) = test (leb 1 dcidLimit && leb dcidLimit maxDcidLimit) (idFormed cid) refl refl e
   where
-    test : (a b : Bool) → (leb 1 dlimit && leb dlimit maxDcidLimit) ≡ a → idFormed cid ≡ b → cond (a && b) (accepted Nothing (fresh dlimit cid path token)) (refused 1 zeroView) .refusal ≡ 0
-        → well (cond (a && b) (accepted Nothing (fresh dlimit cid path token)) (refused 1 zeroView) .view) ≡ true
+    test : (a b : Bool) → (leb 1 dcidLimit && leb dcidLimit maxDcidLimit) ≡ a → idFormed cid ≡ b → cond (a && b) (accepted Nothing (fresh dcidLimit cid path token)) (refused 1 zeroView) .refusal ≡ 0
+        → well (cond (a && b) (accepted Nothing (fresh dcidLimit cid path token)) (refused 1 zeroView) .view) ≡ true
     test true true p q e =
-        let w = and-both (leb 1 dlimit) (leb dlimit maxDcidLimit) p in
-        is-well (fresh dlimit cid path token) (record {
-          limits = omega (arith, leb-true 1 dlimit (w .0), leb-true dlimit maxDcidLimit (w .1));
+        let w = and-both (leb 1 dcidLimit) (leb dcidLimit maxDcidLimit) p in
+        is-well (fresh dcidLimit cid path token) (record {
+          limits = omega (arith, leb-true 1 dcidLimit (w .0), leb-true dcidLimit maxDcidLimit (w .1));
           source = record { one = omega arith; few = omega arith; low = omega arith; high = omega arith; own = omega arith; rises = refl; forms = rw q };
           destination = record { few = omega arith; apart = refl; forms = refl };
           queues = omega arith;
@@ -103,13 +103,13 @@ reply-other v (DcidAt i) = refl
 step-other : (v : View) (c : Call) → Other (step v c)
 step-other v (SetInitialDcid cid token path) = refl
 step-other v (SetScidLimit n) = refl
-step-other v (AddScid cid token advertise path leave) = add-other (add-scid-ends cid token advertise path v leave)
+step-other v (AddScid cid token advertise path retireIfNeeded) = add-other (add-scid-ends cid token advertise path v retireIfNeeded)
 step-other v (RetireScid s packet) = retire-other (retire-scid-ends s packet v)
 step-other v (AddDcid cid s token b) = dcid-other (add-dcid-ends cid s token b v)
 step-other v (MarkScidUsed s p) = decided Other (any (hasSeq s) (v .scids)) (λ e. refl) (λ e. refl)
 step-other v (MarkDcidUsed s p) = decided Other (any (hasSeq s) (v .dcids)) (λ e. refl) (λ e. refl)
-step-other v (MarkScidToAdvertise s on) = decided Other (on && leb queueSlots (length (v .advertise))) (λ e. refl) (λ e. refl)
-step-other v (MarkDcidToRetire s on) = decided Other (on && leb queueSlots (length (v .retire))) (λ e. refl) (λ e. refl)
+step-other v (MarkScidToAdvertise s on) = decided Other (on && leb queueSlots (length (v .scidsToAdvertise))) (λ e. refl) (λ e. refl)
+step-other v (MarkDcidToRetire s on) = decided Other (on && leb queueSlots (length (v .dcidsToRetire))) (λ e. refl) (λ e. refl)
 step-other v (Ask q) = reply-other v q
 
 pub never-one : NeverOne

@@ -58,16 +58,16 @@ data Issue : List ℕ → ℕ → ℕ → Type 0 where
 
 record Traced (v : View) (c : Call) (o : Out) : Type 0 where
   table : sequences (o .view) ≡ logged (sequences v) (record { call = c; refusal = o .refusal; answer = o .answer })
-  issue : Issue (issuedBy (o .answer)) (v .next) (o .view .next)
+  issue : Issue (issuedBy (o .answer)) (v .nextScidSeq) (o .view .nextScidSeq)
 
 -- a call that is no retire, and neither issues nor takes out
-still : (v : View) (c : Call) (o : Out) → retires c ≡ none → sequences (o .view) ≡ sequences v → o .view .next ≡ v .next → issuedBy (o .answer) ≡ [] → Traced v c o
+still : (v : View) (c : Call) (o : Out) → retires c ≡ none → sequences (o .view) ≡ sequences v → o .view .nextScidSeq ≡ v .nextScidSeq → issuedBy (o .answer) ≡ [] → Traced v c o
 still v c o r t n a = record {
   table = rw (r, a) (t ∙ sym (append-nil (sequences v)));
   issue = rw (a, n) nothing;
 }
 
-add-traced : (c : Call) {x : Item} {advertise : Bool} {v : View} {o : Out} → retires c ≡ none → x .seq ≡ v .next → AddScidEnds x advertise v o → Traced v c o
+add-traced : (c : Call) {x : Item} {advertise : Bool} {v : View} {o : Out} → retires c ≡ none → x .seq ≡ v .nextScidSeq → AddScidEnds x advertise v o → Traced v c o
 add-traced c {v = v} e q (refuses n k) = still v c _ e refl refl refl
 add-traced c {v = v} e q (raises n r k t) = still v c _ e refl refl refl
 add-traced c {x} {v = v} e q (issues-one r t n p l a) = record { table = rw e (map-more (v .scids) x ∙ ap (λ (n : ℕ). sequences v ++ (n ∷ [])) q); issue = one }
@@ -100,7 +100,7 @@ module _ (v : View) (s : ℕ) where
       test false b p q = refl
 
   retire-traced : (packet : ConnectionId) {o : Out} → Well v → RetireScidEnds s packet v o → Traced v (RetireScid s packet) o
-  retire-traced packet h (unissued k) = record { table = absent-stays (absent-high s 0 (v .next) (v .scids) k (h .source .rises)); issue = nothing }
+  retire-traced packet h (unissued k) = record { table = absent-stays (absent-high s 0 (v .nextScidSeq) (v .scids) k (h .source .rises)); issue = nothing }
   retire-traced packet h (only e) = record { table = sole-stays e; issue = nothing }
   retire-traced packet h (absent e) = record { table = absent-stays e; issue = nothing }
   retire-traced packet h (taken-out n k a e) = record { table = rw (ne-eqb n 1 (λ z. omega arith)) (present-goes e a); issue = nothing }
@@ -140,7 +140,7 @@ reply-quiet v (DcidAt i) = refl
 step-traced : (v : View) (c : Call) → Well v → Traced v c (step v c)
 step-traced v (SetInitialDcid cid token path) h = still v _ _ refl refl refl refl
 step-traced v (SetScidLimit n) h = still v _ _ refl refl refl refl
-step-traced v (AddScid cid token advertise path leave) h = add-traced _ refl refl (add-scid-ends cid token advertise path v leave)
+step-traced v (AddScid cid token advertise path retireIfNeeded) h = add-traced _ refl refl (add-scid-ends cid token advertise path v retireIfNeeded)
 step-traced v (RetireScid s packet) h = retire-traced v s packet h (retire-scid-ends s packet v)
 step-traced v (AddDcid cid s token b) h = dcid-traced _ refl (add-dcid-ends cid s token b v)
 step-traced v (MarkScidUsed s p) h =
@@ -151,10 +151,10 @@ step-traced v (MarkDcidUsed s p) h =
     decided (Traced v c) (any (hasSeq s) (v .dcids)) (λ e. still v c _ refl refl refl refl) (λ e. still v c _ refl refl refl refl)
 step-traced v (MarkScidToAdvertise s on) h =
     let c : Call = MarkScidToAdvertise s on in
-    decided (Traced v c) (on && leb queueSlots (length (v .advertise))) (λ e. still v c _ refl refl refl refl) (λ e. still v c _ refl refl refl refl)
+    decided (Traced v c) (on && leb queueSlots (length (v .scidsToAdvertise))) (λ e. still v c _ refl refl refl refl) (λ e. still v c _ refl refl refl refl)
 step-traced v (MarkDcidToRetire s on) h =
     let c : Call = MarkDcidToRetire s on in
-    decided (Traced v c) (on && leb queueSlots (length (v .retire))) (λ e. still v c _ refl refl refl refl) (λ e. still v c _ refl refl refl refl)
+    decided (Traced v c) (on && leb queueSlots (length (v .dcidsToRetire))) (λ e. still v c _ refl refl refl refl) (λ e. still v c _ refl refl refl refl)
 step-traced v (Ask q) h = still v (Ask q) _ refl refl refl (reply-quiet v q)
 
 -- answered 1: nothing moves
@@ -175,9 +175,9 @@ longer nothing = omega arith
 longer one = omega arith
 
 record Ran (v : View) (cs : List Call) : Type 0 where
-  gapless : issues (history v cs) ≡ counted (v .next) (length (issues (history v cs)))
+  gapless : issues (history v cs) ≡ counted (v .nextScidSeq) (length (issues (history v cs)))
   table : sequences (run v cs) ≡ live (sequences v) (history v cs)
-  next : run v cs .next ≡ v .next + length (issues (history v cs))
+  next : run v cs .nextScidSeq ≡ v .nextScidSeq + length (issues (history v cs))
 
 ran : (cs : List Call) (v : View) → well v ≡ true → Ran v cs
 ran [] v h = record { gapless = refl; table = refl; next = omega arith }
@@ -202,7 +202,7 @@ not-logged s l e h k =
     decided (λ (m : List ℕ). has s m ≡ false) (eqb (e .refusal) 1) (λ r. h) (λ r.
     decided (λ (m : List ℕ). has s m ≡ false) (leb 2 (length l) && has q l) (λ r. none-keep (eqb s) (λ (n : ℕ). not (eqb q n)) l h) (λ r. h)))
 
-gone : (s : ℕ) (cs : List Call) (v : View) → well v ≡ true → s < v .next → has s (sequences v) ≡ false → has s (sequences (run v cs)) ≡ false
+gone : (s : ℕ) (cs : List Call) (v : View) → well v ≡ true → s < v .nextScidSeq → has s (sequences v) ≡ false → has s (sequences (run v cs)) ≡ false
 gone s [] v h n k = k
 gone s (c ∷ cs) v h n k =
     let t : Traced v c (apply v c) = traced v c (well-is v h) in
@@ -223,13 +223,13 @@ run-append (c ∷ cs) ds v = run-append cs ds (after v c)
 -- ---- a fresh state
 
 pub record Begun (v : View) : Type 0 where
-  pub next : v .next ≡ 1
+  pub next : v .nextScidSeq ≡ 1
   pub table : sequences v ≡ 0 ∷ []
 
 pub begun : (v : View) → Starts v → Begun v
-begun v (starts dlimit cid path token e) = test (freshFormed dlimit cid) e
+begun v (starts dcidLimit cid path token e) = test (freshFormed dcidLimit cid) e
   where
-    test : (b : Bool) → cond b (accepted Nothing (fresh dlimit cid path token)) (refused 1 zeroView) .refusal ≡ 0 → Begun (cond b (accepted Nothing (fresh dlimit cid path token)) (refused 1 zeroView) .view)
+    test : (b : Bool) → cond b (accepted Nothing (fresh dcidLimit cid path token)) (refused 1 zeroView) .refusal ≡ 0 → Begun (cond b (accepted Nothing (fresh dcidLimit cid path token)) (refused 1 zeroView) .view)
     test true e = record { next = refl; table = refl }
     test false e = absurd (omega arith)
 

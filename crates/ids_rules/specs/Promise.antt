@@ -22,8 +22,8 @@ use Rattle.ids_rules.specs.Calls.{Call, SetInitialDcid, SetScidLimit, Ad
 
 -- what a fresh call that is not refused gives
 pub data Starts : View → Type 0 where
-  starts : (dlimit : ℕ) (cid : ConnectionId) (path : ℕ) (token : Option (List ℕ))
-      → freshCall dlimit cid path token .refusal ≡ 0 → Starts (freshCall dlimit cid path token .view)
+  starts : (dcidLimit : ℕ) (cid : ConnectionId) (path : ℕ) (token : Option (List ℕ))
+      → freshCall dcidLimit cid path token .refusal ≡ 0 → Starts (freshCall dcidLimit cid path token .view)
 
 -- ---- one outcome
 
@@ -92,7 +92,7 @@ issues (e ∷ es) = issuedBy (e .answer) ++ issues es
 abbrev pub retires : Call → Option ℕ
 retires (SetInitialDcid cid token path) = none
 retires (SetScidLimit n) = none
-retires (AddScid cid token advertise path leave) = none
+retires (AddScid cid token advertise path retireIfNeeded) = none
 retires (RetireScid s packet) = some s
 retires (AddDcid cid s token b) = none
 retires (MarkScidUsed s p) = none

@@ -87,13 +87,13 @@ reply-modest v (DcidAt i) = λ z. never z
 step-sober : (v : View) (c : Call) → Sober v (step v c)
 step-sober v (SetInitialDcid cid token path) = fine v _ _
 step-sober v (SetScidLimit n) = fine v _ _
-step-sober v (AddScid cid token advertise path leave) = add-sober (add-scid-ends cid token advertise path v leave)
+step-sober v (AddScid cid token advertise path retireIfNeeded) = add-sober (add-scid-ends cid token advertise path v retireIfNeeded)
 step-sober v (RetireScid s packet) = retire-sober (retire-scid-ends s packet v)
 step-sober v (AddDcid cid s token b) = dcid-sober (add-dcid-ends cid s token b v)
 step-sober v (MarkScidUsed s p) = decided (Sober v) (any (hasSeq s) (v .scids)) (λ e. fine v _ _) (λ e. unchanged v 2)
 step-sober v (MarkDcidUsed s p) = decided (Sober v) (any (hasSeq s) (v .dcids)) (λ e. fine v _ _) (λ e. unchanged v 2)
-step-sober v (MarkScidToAdvertise s on) = decided (Sober v) (on && leb queueSlots (length (v .advertise))) (λ e. unchanged v 6) (λ e. fine v _ _)
-step-sober v (MarkDcidToRetire s on) = decided (Sober v) (on && leb queueSlots (length (v .retire))) (λ e. unchanged v 6) (λ e. fine v _ _)
+step-sober v (MarkScidToAdvertise s on) = decided (Sober v) (on && leb queueSlots (length (v .scidsToAdvertise))) (λ e. unchanged v 6) (λ e. fine v _ _)
+step-sober v (MarkDcidToRetire s on) = decided (Sober v) (on && leb queueSlots (length (v .dcidsToRetire))) (λ e. unchanged v 6) (λ e. fine v _ _)
 step-sober v (Ask q) = record { quiet = reply-modest v q; still = λ e. refl }
 
 sober : (v : View) (c : Call) → Sober v (apply v c)

@@ -41,7 +41,7 @@ pub record Issue : Type 0 where
   pub token : Option (List ℕ)
   pub advertise : Bool
   pub path : Option ℕ
-  pub leave : Bool
+  pub retireIfNeeded : Bool
 
 -- the host puts an ID on a path
 pub record Use : Type 0 where
@@ -61,7 +61,7 @@ abbrev pub retireId : RetireConnectionId → Call
 retireId f = RetireScid (f .seq) (f .packet)
 
 abbrev pub issueId : Issue → Call
-issueId i = AddScid (i .cid) (i .token) (i .advertise) (i .path) (i .leave)
+issueId i = AddScid (i .cid) (i .token) (i .advertise) (i .path) (i .retireIfNeeded)
 
 abbrev pub useSource : Use → Call
 useSource u = MarkScidUsed (u .seq) (u .path)
@@ -93,10 +93,10 @@ repeated v f = any (λ (y : Item). repeats y (itemOf f)) (v .dcids)
 
 -- its Retire Prior To is an increased one; its sequence is below an earlier one
 abbrev pub increases : View → NewConnectionId → Bool
-increases v f = ltb (v .largest) (f .retirePriorTo)
+increases v f = ltb (v .largestPeerRetirePriorTo) (f .retirePriorTo)
 
 abbrev pub comesLate : View → NewConnectionId → Bool
-comesLate v f = ltb (f .seq) (v .largest)
+comesLate v f = ltb (f .seq) (v .largestPeerRetirePriorTo)
 
 -- the held IDs that an increased Retire Prior To leaves active
 abbrev pub kept : View → NewConnectionId → List Item
@@ -104,15 +104,15 @@ kept v f = cond (increases v f) (keep (from (f .retirePriorTo)) (v .dcids)) (v .
 
 -- how many IDs are then in need of retirement: those that wait, those that an increased Retire Prior To names, and the frame's own, if it comes late and does not wait yet
 abbrev pub inNeed : View → NewConnectionId → ℕ
-inNeed v f = length (v .retire) + cond (increases v f) (length (keep (below (f .retirePriorTo)) (v .dcids))) 0 + cond (comesLate v f && not (has (f .seq) (v .retire))) 1 0
+inNeed v f = length (v .dcidsToRetire) + cond (increases v f) (length (keep (below (f .retirePriorTo)) (v .dcids))) 0 + cond (comesLate v f && not (has (f .seq) (v .dcidsToRetire))) 1 0
 
 -- 5.1.2 leaves the limit of these to the endpoint: 4 x limit
 abbrev pub retireLimit : View → ℕ
-retireLimit v = retireFactor * v .dlimit
+retireLimit v = retireFactor * v .dcidLimit
 
 -- the frame is an error for what it says, or gives what is held
 abbrev pub otherwise : View → NewConnectionId → Bool
-otherwise v f = v .zeroDcid || (held v f || ltb (f .seq) (f .retirePriorTo))
+otherwise v f = v .zeroLengthDcid || (held v f || ltb (f .seq) (f .retirePriorTo))
 
 -- ---- errors (20.1): the call is refused, and the refusal has this code
 
@@ -156,7 +156,7 @@ AcceptedUntilRetired v c o = (id : ConnectionId) → any (hasCid id) (v .scids) 
 abbrev pub retiring : View → Call → Bool
 retiring v (SetInitialDcid cid token path) = false
 retiring v (SetScidLimit n) = false
-retiring v (AddScid cid token advertise path leave) = false
+retiring v (AddScid cid token advertise path retireIfNeeded) = false
 retiring v (RetireScid s packet) = true
 retiring v (AddDcid cid s token b) = false
 retiring v (MarkScidUsed s p) = false
@@ -171,39 +171,39 @@ OthersStay v f o = (s : ℕ) → eqb s (f .seq) ≡ false → has s (sequences v
 
 -- the source IDs that the peer is not asked to retire
 abbrev pub active : View → ℕ
-active v = length (keep (from (v .rpt)) (v .scids))
+active v = length (keep (from (v .retirePriorTo)) (v .scids))
 
 -- MUST NOT provide more IDs than the peer's limit, but MAY exceed it where Retire Prior To asks for the excess
 abbrev pub WithinPeerLimit : Rule Issue
-WithinPeerLimit v i o = o .refusal ≡ 0 → active (o .view) ≤ o .view .slimit
+WithinPeerLimit v i o = o .refusal ≡ 0 → active (o .view) ≤ o .view .scidLimit
 
 -- the exception: the limit has been lowered below what is active
 abbrev pub excess : View → Issue → Bool
-excess v i = ltb (v .slimit) (active v)
+excess v i = ltb (v .scidLimit) (active v)
 
 -- after adding and retiring, more active IDs than the limit MUST be a CONNECTION_ID_LIMIT_ERROR: where a frame is no error, there are at most limit
 abbrev pub WithinLimit : Rule NewConnectionId
-WithinLimit v f o = o .refusal ≡ 0 → length (o .view .dcids) ≤ v .dlimit
+WithinLimit v f o = o .refusal ≡ 0 → length (o .view .dcids) ≤ v .dcidLimit
 
 -- the exception: as many as the limit are kept already; or a repeat leaves all in place, its Retire Prior To unread, and they are more
 abbrev pub filled : View → NewConnectionId → Bool
-filled v f = leb (v .dlimit) (length (kept v f)) || (repeated v f && ltb (v .dlimit) (length (v .dcids)))
+filled v f = leb (v .dcidLimit) (length (kept v f)) || (repeated v f && ltb (v .dcidLimit) (length (v .dcids)))
 
 -- and where the frame adds an ID to as many as the limit, and nothing else is wrong with it, the error is this one
 abbrev pub OverLimit : Rule NewConnectionId
-OverLimit v f o = otherwise v f ≡ false → comesLate v f ≡ false → inNeed v f ≤ retireLimit v → v .dlimit ≤ length (kept v f) → Closes CONNECTION-ID-LIMIT-ERROR o
+OverLimit v f o = otherwise v f ≡ false → comesLate v f ≡ false → inNeed v f ≤ retireLimit v → v .dcidLimit ≤ length (kept v f) → Closes CONNECTION-ID-LIMIT-ERROR o
 
 -- the exception: fewer than 2 x limit - 1 are kept
 abbrev pub unfilled : View → NewConnectionId → Bool
-unfilled v f = ltb (length (kept v f)) (dcap (v .dlimit))
+unfilled v f = ltb (length (kept v f)) (dcap (v .dcidLimit))
 
 -- SHOULD supply a new ID when the peer retires one: where fewer are active than the peer allows, one can be issued
 abbrev pub Supplies : Rule Issue
-Supplies v i o = v .zeroScid ≡ false → present (i .token) ≡ true → active v < v .slimit → o .refusal ≡ 0
+Supplies v i o = v .zeroLengthScid ≡ false → present (i .token) ≡ true → active v < v .scidLimit → o .refusal ≡ 0
 
 -- the exception: the table is at the limit; or the sequences are spent; or the advertise queue is full
 abbrev pub noRoom : View → Issue → Bool
-noRoom v i = leb (v .slimit) (length (v .scids)) || (leb maxSequence (v .next) || (i .advertise && leb queueSlots (length (v .advertise))))
+noRoom v i = leb (v .scidLimit) (length (v .scids)) || (leb maxSequence (v .nextScidSeq) || (i .advertise && leb queueSlots (length (v .scidsToAdvertise))))
 
 -- MAY limit the total number of IDs issued: sequences stay below 2^62
 abbrev pub TotalLimited : Rule Issue
@@ -211,11 +211,11 @@ TotalLimited v i o = (n : ℕ) → o .answer ≡ Issued n → n < maxSequence
 
 -- MAY limit the issuance of IDs: the limit is 2 to 16, whatever the peer allows
 abbrev pub IssuanceLimited : Rule ℕ
-IssuanceLimited v n o = (minScidLimit ≤ o .view .slimit) × (o .view .slimit ≤ maxCidsCount)
+IssuanceLimited v n o = (minScidLimit ≤ o .view .scidLimit) × (o .view .scidLimit ≤ maxCidsCount)
 
 -- an endpoint with a zero-length source ID cannot issue one (and 19.15: MUST NOT send the frame)
 abbrev pub ZeroLengthIssues : Rule Issue
-ZeroLengthIssues v i o = v .zeroScid ≡ true → (o .view ≡ v) × (o .refusal ≡ 0 → ⊥)
+ZeroLengthIssues v i o = v .zeroLengthScid ≡ true → (o .view ≡ v) × (o .refusal ≡ 0 → ⊥)
 
 -- 5.1: the same ID MUST NOT be issued twice
 abbrev pub IssuedOnce : Rule Issue
@@ -229,23 +229,23 @@ LimitBelowTwo v n o = n < 2 → Closes TRANSPORT-PARAMETER-ERROR o
 
 -- an ID for which RETIRE_CONNECTION_ID is sent will not be used again: it is not offered
 abbrev pub NotOffered : Rule Query
-NotOffered v q o = q ≡ LowestUnusedDcidSeq → (s : ℕ) → o .answer ≡ Perhaps (some s) → has s (v .retire) ≡ false
+NotOffered v q o = q ≡ LowestUnusedDcidSeq → (s : ℕ) → o .answer ≡ Perhaps (some s) → has s (v .dcidsToRetire) ≡ false
 
 -- upon an increased Retire Prior To, the lower IDs MUST be retired, and none of them is used
 abbrev pub LowerAreRetired : Rule NewConnectionId
-LowerAreRetired v f o = v .largest < f .retirePriorTo → o .refusal ≡ 0
+LowerAreRetired v f o = v .largestPeerRetirePriorTo < f .retirePriorTo → o .refusal ≡ 0
     → (all (from (f .retirePriorTo)) (o .view .dcids) ≡ true)
-    × ((s : ℕ) → has s (map seqOf (v .dcids)) ≡ true → s < f .retirePriorTo → has s (o .view .retire) ≡ true)
+    × ((s : ℕ) → has s (map seqOf (v .dcids)) ≡ true → s < f .retirePriorTo → has s (o .view .dcidsToRetire) ≡ true)
 
 -- SHOULD limit the number of IDs retired and not acknowledged, of which the view has those whose frame waits: whatever is called, if it is no error, at most so many wait
 abbrev pub QueueLimited : Rule Call
-QueueLimited v c o = o .refusal ≡ 0 → length (o .view .retire) ≤ retireLimit v
+QueueLimited v c o = o .refusal ≡ 0 → length (o .view .dcidsToRetire) ≤ retireLimit v
 
 -- the exception: the host marks one; or more waited before, by such marks or by going on after the error
 abbrev pub marking : View → Call → Bool
 marking v (SetInitialDcid cid token path) = false
 marking v (SetScidLimit n) = false
-marking v (AddScid cid token advertise path leave) = false
+marking v (AddScid cid token advertise path retireIfNeeded) = false
 marking v (RetireScid s packet) = false
 marking v (AddDcid cid s token b) = false
 marking v (MarkScidUsed s p) = false
@@ -255,14 +255,14 @@ marking v (MarkDcidToRetire s on) = on
 marking v (Ask q) = false
 
 abbrev pub crowded : {A : Type 0} → View → A → Bool
-crowded v a = ltb (retireLimit v) (length (v .retire))
+crowded v a = ltb (retireLimit v) (length (v .dcidsToRetire))
 
 abbrev pub unlimited : View → Call → Bool
 unlimited v c = marking v c || crowded v c
 
 -- SHOULD track at least twice the limit: up to that many in need of retirement, a frame is an error only for too many active IDs
 abbrev pub TracksTwice : Rule NewConnectionId
-TracksTwice v f o = inNeed v f ≤ 2 * v .dlimit → (Closes CONNECTION-ID-LIMIT-ERROR o → ⊥) → o .refusal ≡ 0
+TracksTwice v f o = inNeed v f ≤ 2 * v .dcidLimit → (Closes CONNECTION-ID-LIMIT-ERROR o → ⊥) → o .refusal ≡ 0
 
 -- more in need of retirement than one's own limit MAY be an error of this code, CONNECTION_ID_LIMIT_ERROR: here it is an error, but where more waited before
 abbrev pub TooManyToRetire : ℕ → Rule NewConnectionId
@@ -270,13 +270,13 @@ TooManyToRetire code v f o = otherwise v f ≡ false → retireLimit v < inNeed 
 
 -- an ID MUST NOT be forgotten without being retired: by any call
 abbrev pub NotForgotten : Rule Call
-NotForgotten v c o = (s : ℕ) → has s (map seqOf (v .dcids)) ≡ true → (has s (map seqOf (o .view .dcids)) || has s (o .view .retire)) ≡ true
+NotForgotten v c o = (s : ℕ) → has s (map seqOf (v .dcids)) ≡ true → (has s (map seqOf (o .view .dcids)) || has s (o .view .dcidsToRetire)) ≡ true
 
 -- the exception: set_initial_dcid empties the table
 abbrev pub initial : View → Call → Bool
 initial v (SetInitialDcid cid token path) = true
 initial v (SetScidLimit n) = false
-initial v (AddScid cid token advertise path leave) = false
+initial v (AddScid cid token advertise path retireIfNeeded) = false
 initial v (RetireScid s packet) = false
 initial v (AddDcid cid s token b) = false
 initial v (MarkScidUsed s p) = false
@@ -287,7 +287,7 @@ initial v (Ask q) = false
 
 -- SHOULD NOT raise Retire Prior To before the peer has retired what the last value named
 abbrev pub RaisedOnce : Rule Issue
-RaisedOnce v i o = any (below (v .rpt)) (v .scids) ≡ true → o .view .rpt ≡ v .rpt
+RaisedOnce v i o = any (below (v .retirePriorTo)) (v .scids) ≡ true → o .view .retirePriorTo ≡ v .retirePriorTo
 
 -- ---- 9.5, paths, and 10.3.2, tokens
 
@@ -321,11 +321,11 @@ IssuesLength v i o = o .refusal ≡ 0 → leb 1 (i .cid .len) ≡ true
 
 -- a receiver that sends with a zero-length destination ID MUST treat it as PROTOCOL_VIOLATION
 abbrev pub ZeroLengthDestination : Rule NewConnectionId
-ZeroLengthDestination v f o = v .zeroDcid ≡ true → Closes PROTOCOL-VIOLATION o
+ZeroLengthDestination v f o = v .zeroLengthDcid ≡ true → Closes PROTOCOL-VIOLATION o
 
 -- the same frame again MUST NOT be an error: where the table holds what it gave
 abbrev pub SameFrameAgain : Rule NewConnectionId
-SameFrameAgain v f o = v .zeroDcid ≡ false → repeated v f ≡ true → o ≡ accepted (Retired []) v
+SameFrameAgain v f o = v .zeroLengthDcid ≡ false → repeated v f ≡ true → o ≡ accepted (Retired []) v
 
 -- and at any later time, whatever calls came between
 abbrev pub SameFrameLater : Rule NewConnectionId
@@ -337,7 +337,7 @@ Conflict v f o = held v f ≡ true → repeated v f ≡ false → Closes PROTOCO
 
 -- sending: Retire Prior To MUST be at most the sequence, in the frame of the ID just issued
 abbrev pub IssuedAboveOwn : Rule Issue
-IssuedAboveOwn v i o = (n : ℕ) → o .answer ≡ Issued n → o .view .rpt ≤ n
+IssuedAboveOwn v i o = (n : ℕ) → o .answer ≡ Issued n → o .view .retirePriorTo ≤ n
 
 -- and in any frame that is made
 abbrev pub FrameAboveOwn : Rule ℕ
@@ -353,16 +353,16 @@ AboveIsError v f o = f .seq < f .retirePriorTo → o .refusal ≡ 0 → ⊥
 
 -- a receiver MUST ignore a Retire Prior To that does not increase the largest: all goes as if it were 0
 abbrev pub Ignores : Rule NewConnectionId
-Ignores v f o = f .retirePriorTo ≤ v .largest → f .retirePriorTo ≤ f .seq
+Ignores v f o = f .retirePriorTo ≤ v .largestPeerRetirePriorTo → f .retirePriorTo ≤ f .seq
     → o ≡ apply v (newId (record { cid = f .cid; seq = f .seq; token = f .token; retirePriorTo = 0 }))
 
 -- a sequence below an earlier Retire Prior To MUST be retired, unless it already was
 abbrev pub LateIsRetired : Rule NewConnectionId
-LateIsRetired v f o = f .seq < v .largest → o .refusal ≡ 0 → has (f .seq) (o .view .retire) ≡ true
+LateIsRetired v f o = f .seq < v .largestPeerRetirePriorTo → o .refusal ≡ 0 → has (f .seq) (o .view .dcidsToRetire) ≡ true
 
 -- and so it is not in use
 abbrev pub LateIsNotKept : Rule NewConnectionId
-LateIsNotKept v f o = f .seq < v .largest → o .refusal ≡ 0 → any (hasSeq (f .seq)) (o .view .dcids) ≡ false
+LateIsNotKept v f o = f .seq < v .largestPeerRetirePriorTo → o .refusal ≡ 0 → any (hasSeq (f .seq)) (o .view .dcids) ≡ false
 
 -- ---- 19.16, RETIRE_CONNECTION_ID
 
@@ -372,15 +372,15 @@ TokenEnds v f o = o .refusal ≡ 0 → any (hasSeq (f .seq)) (o .view .scids) �
 
 -- and no frame is left to send for it (13.3)
 abbrev pub NoFrameForRetired : Rule RetireConnectionId
-NoFrameForRetired v f o = o .refusal ≡ 0 → has (f .seq) (o .view .advertise) ≡ false
+NoFrameForRetired v f o = o .refusal ≡ 0 → has (f .seq) (o .view .scidsToAdvertise) ≡ false
 
 -- a sequence greater than any sent MUST be a PROTOCOL_VIOLATION; here: than any issued
 abbrev pub NotIssued : Rule RetireConnectionId
-NotIssued v f o = v .next ≤ f .seq → Closes PROTOCOL-VIOLATION o
+NotIssued v f o = v .nextScidSeq ≤ f .seq → Closes PROTOCOL-VIOLATION o
 
 -- and where it and all above it still wait to be sent
 abbrev pub unsent : View → ℕ → Bool
-unsent v s = has s (v .advertise) && all (λ (x : Item). below s x || has (x .seq) (v .advertise)) (v .scids)
+unsent v s = has s (v .scidsToAdvertise) && all (λ (x : Item). below s x || has (x .seq) (v .scidsToAdvertise)) (v .scids)
 
 abbrev pub NotSent : Rule RetireConnectionId
 NotSent v f o = unsent v (f .seq) ≡ true → Closes PROTOCOL-VIOLATION o
@@ -395,15 +395,15 @@ only v f = sole (f .seq) (v .scids)
 
 -- the peer may retire any other ID that it was given
 abbrev pub GivenIsRetired : Rule RetireConnectionId
-GivenIsRetired v f o = (x : Item) → f .seq < v .next → first (hasSeq (f .seq)) (v .scids) ≡ some x → sameId (x .cid) (f .packet) ≡ false → o .refusal ≡ 0
+GivenIsRetired v f o = (x : Item) → f .seq < v .nextScidSeq → first (hasSeq (f .seq)) (v .scids) ≡ some x → sameId (x .cid) (f .packet) ≡ false → o .refusal ≡ 0
 
 -- the exception: it is the only ID, or none is left that the peer is not asked to retire
 abbrev pub noneLeft : View → RetireConnectionId → Bool
-noneLeft v f = sole (f .seq) (v .scids) || not (present (lowestFrom (v .rpt) (without (f .seq) (v .scids))))
+noneLeft v f = sole (f .seq) (v .scids) || not (present (lowestFrom (v .retirePriorTo) (without (f .seq) (v .scids))))
 
 -- an endpoint that provides a zero-length ID MUST treat it as PROTOCOL_VIOLATION
 abbrev pub ZeroLengthSource : Rule RetireConnectionId
-ZeroLengthSource v f o = v .zeroScid ≡ true → Closes PROTOCOL-VIOLATION o
+ZeroLengthSource v f o = v .zeroLengthScid ≡ true → Closes PROTOCOL-VIOLATION o
 
 -- ---- what is met
 
@@ -462,7 +462,7 @@ abbrev pub initialDcid : ℕ → Call
 initialDcid c = SetInitialDcid (cid c) (some (token c)) none
 
 abbrev pub scid : ℕ → Bool → Issue
-scid c leave = record { cid = cid c; token = some (token c); advertise = false; path = none; leave = leave }
+scid c retireIfNeeded = record { cid = cid c; token = some (token c); advertise = false; path = none; retireIfNeeded = retireIfNeeded }
 
 abbrev pub retired : ℕ → RetireConnectionId
 retired s = record { seq = s; packet = cid 1 }
@@ -533,11 +533,11 @@ pub record Differs : Type 0 where
   -- D21 (5.1): an ID can be issued twice
   pub issuedTwice : DiffersAt issueId IssuedOnce (ids 1) (scid 1 false)
   -- D22: an empty ID can be issued
-  pub issuesEmpty : DiffersAt issueId IssuesLength (ids 1) (record { cid = zeroId; token = some (token 0); advertise = false; path = none; leave = false })
+  pub issuesEmpty : DiffersAt issueId IssuesLength (ids 1) (record { cid = zeroId; token = some (token 0); advertise = false; path = none; retireIfNeeded = false })
   -- D23 (18.2): a limit below 2 is raised to 2
   pub lowLimit : DiffersAt SetScidLimit LimitBelowTwo (ids 1) 0
   -- D37 (10.3.2): the token of another ID is taken, for ours and for the peer's
-  pub sharesToken : DiffersAt issueId TokenOnce (fresh 1 (cid 1) 0 (some (token 1))) (record { cid = cid 2; token = some (token 1); advertise = false; path = none; leave = false })
+  pub sharesToken : DiffersAt issueId TokenOnce (fresh 1 (cid 1) 0 (some (token 1))) (record { cid = cid 2; token = some (token 1); advertise = false; path = none; retireIfNeeded = false })
   pub peerSharesToken : DiffersAt newId PeerTokenOnce (run (ids 2) (newId (dcid 2 0 0) ∷ [])) (record { cid = cid 3; seq = 1; token = token 2; retirePriorTo = 0 })
   -- D38 (9.5): an ID on a path is put on another, the peer's and ours
   pub movesPath : DiffersAt useDestination (OnePath (λ v. v .dcids)) (run (ids 1) (SetInitialDcid (cid 2) (some (token 2)) (some 0) ∷ [])) (record { seq = 0; path = 1 })

@@ -18,7 +18,8 @@ use Rattle.values.specs.Laws.{same-id-is}
 use Rattle.values.specs.Refusals.{CONNECTION-ID-LIMIT-ERROR, PROTOCOL-VIOLATION}
 use Rattle.ids_rules.specs.Values.{Item, onPath, seqOf, hasSeq, hasCid, from, below, clashes, repeats}
 use Rattle.values.specs.declared.used.UsedSeq.{UsedSeq}
-use Rattle.ids_rules.specs.View.{View, Nothing, Issued, Out, refused, dcap, withRetire}
+use Rattle.ids_rules.specs.View.{View, Nothing, Issued, Out, refused, dcap}
+use Rattle.ids_rules.specs.With.{withDcidsToRetire}
 use Rattle.ids_rules.specs.Steps.{lowestFrom, sole, without, tooMany, queueLate, raise, append, lowered}
 use Rattle.ids_rules.specs.Ends.{Raised, spare, lifts, AddScidEnds, refuses, raises, issues, RetireScidEnds, unissued, only as only-one, absent, out, frees, AddDcidEnds, rejects, again, late4, late, lowers, renews, adds, queued, add-scid-ends, retire-scid-ends, add-dcid-ends}
 use Rattle.ids_rules.specs.Well.{well, distinct}
@@ -51,7 +52,7 @@ zero-issues : Met issueId ZeroLengthIssues
 zero-issues = met issueId ZeroLengthIssues (λ v i h z. rw z (refl, λ e. omega arith))
 
 not-issued : Met retireId NotIssued
-not-issued = met retireId NotIssued (λ v f h n. rw (le-leb (v .next) (f .seq) n) (refl, refl))
+not-issued = met retireId NotIssued (λ v f h n. rw (le-leb (v .nextScidSeq) (f .seq) n) (refl, refl))
 
 -- ---- repeats
 
@@ -114,7 +115,7 @@ unrepeated P v f n r k = test (held v f) refl
   where
     test : (b : Bool) → held v f ≡ b → P (step v (newId f))
     test true c =
-        decided P (v .zeroDcid) (λ e. r) (λ e.
+        decided P (v .zeroLengthDcid) (λ e. r) (λ e.
         optioned P (first (λ (y : Item). clashes y (itemOf f)) (v .dcids)) (λ e. never (sym c ∙ first-none (λ (y : Item). clashes y (itemOf f)) (v .dcids) e))
         (λ y e. rw (first-passes (λ (y : Item). clashes y (itemOf f)) (λ (y : Item). repeats y (itemOf f)) (v .dcids) y e n) r))
     test false c = k c
@@ -128,20 +129,20 @@ conflicts = met newId Conflict (λ v f h c n. unrepeated (λ (o : Out). Closes P
 ends : (v : View) (f : NewConnectionId) → AddDcidEnds (itemOf f) (f .retirePriorTo) v (step v (newId f))
 ends v f = add-dcid-ends (f .cid) (f .seq) (f .token) (f .retirePriorTo) v
 
-issue-ends : (v : View) (i : Issue) → AddScidEnds (record { cid = i .cid; seq = v .next; token = i .token; path = i .path }) (i .advertise) v (step v (issueId i))
-issue-ends v i = add-scid-ends (i .cid) (i .token) (i .advertise) (i .path) v (i .leave)
+issue-ends : (v : View) (i : Issue) → AddScidEnds (record { cid = i .cid; seq = v .nextScidSeq; token = i .token; path = i .path }) (i .advertise) v (step v (issueId i))
+issue-ends v i = add-scid-ends (i .cid) (i .token) (i .advertise) (i .path) v (i .retireIfNeeded)
 
 above : MetUnless newId repeated (AboveSequence PROTOCOL-VIOLATION)
 above = met-unless newId (AboveSequence PROTOCOL-VIOLATION) repeated (λ v f h n k.
     let P : Out → Type 0 = Closes PROTOCOL-VIOLATION in
     unrepeated P v f n (refl, refl) (λ c.
-    decided P (v .zeroDcid) (λ e. (refl, refl)) (λ e.
+    decided P (v .zeroLengthDcid) (λ e. (refl, refl)) (λ e.
     optioned P (first (λ (y : Item). clashes y (itemOf f)) (v .dcids)) (λ e. rw (lt-ltb (f .seq) (f .retirePriorTo) k) (refl, refl))
     (λ y e. never (sym (first-some (λ (y : Item). clashes y (itemOf f)) (v .dcids) y e) ∙ c)))))
 
 ignored : Met newId Ignores
 ignored v f h c k l =
-    rw (le-ltb (f .seq) (f .retirePriorTo) l, le-ltb (v .largest) (f .retirePriorTo) k, le-ltb (f .seq) 0 (omega arith), le-ltb (v .largest) 0 (omega arith))
+    rw (le-ltb (f .seq) (f .retirePriorTo) l, le-ltb (v .largestPeerRetirePriorTo) (f .retirePriorTo) k, le-ltb (f .seq) 0 (omega arith), le-ltb (v .largestPeerRetirePriorTo) 0 (omega arith))
 
 -- ---- late sequences, and raised ones
 
@@ -161,7 +162,7 @@ late-retired : (v : View) (f : NewConnectionId) {o : Out} → AddDcidEnds (itemO
 late-retired v f (rejects n k) c l z = absurd (omega arith)
 late-retired v f (again e) c l z = never (sym e ∙ c)
 late-retired v f (late4 n k m) c l z = absurd (omega arith)
-late-retired v f (late n k m t) c l z = has-right (f .seq) (v .retire) (f .seq ∷ []) (rw (eq-eqb (f .seq) (f .seq) refl))
+late-retired v f (late n k m t) c l z = has-right (f .seq) (v .dcidsToRetire) (f .seq ∷ []) (rw (eq-eqb (f .seq) (f .seq) refl))
 late-retired v f (lowers m k n u q) c l z = absurd (omega arith)
 late-retired v f (renews n u q r t) c l z = absurd (omega (arith, n .fits))
 late-retired v f (adds n u q r) c l z = q l
@@ -198,20 +199,20 @@ lower-retired v f (lowers m k n u q) c l z = absurd (omega arith)
 lower-retired v f (renews n u q r t) c l z =
     let b : ℕ = f .retirePriorTo in (
       all-append (from b) (keep (from b) (v .dcids)) (itemOf f ∷ []) (all-kept (from b) (v .dcids)) (rw (le-leb b (f .seq) (n .fits))),
-      λ s t k. has-right s (v .retire) _ (has-below s b (v .dcids) k t),
+      λ s t k. has-right s (v .dcidsToRetire) _ (has-below s b (v .dcids) k t),
     )
 lower-retired v f (adds n u q r) c l z = absurd (omega arith)
 
 -- ---- the destination limit
 
 -- what is kept, where Retire Prior To is increased and where it is not
-kept-from : (v : View) (f : NewConnectionId) → v .largest < f .retirePriorTo → kept v f ≡ keep (from (f .retirePriorTo)) (v .dcids)
-kept-from v f k = rw (lt-ltb (v .largest) (f .retirePriorTo) k)
+kept-from : (v : View) (f : NewConnectionId) → v .largestPeerRetirePriorTo < f .retirePriorTo → kept v f ≡ keep (from (f .retirePriorTo)) (v .dcids)
+kept-from v f k = rw (lt-ltb (v .largestPeerRetirePriorTo) (f .retirePriorTo) k)
 
-kept-all : (v : View) (f : NewConnectionId) → f .retirePriorTo ≤ v .largest → kept v f ≡ v .dcids
-kept-all v f k = rw (le-ltb (v .largest) (f .retirePriorTo) k)
+kept-all : (v : View) (f : NewConnectionId) → f .retirePriorTo ≤ v .largestPeerRetirePriorTo → kept v f ≡ v .dcids
+kept-all v f k = rw (le-ltb (v .largestPeerRetirePriorTo) (f .retirePriorTo) k)
 
-limit-within : (v : View) (f : NewConnectionId) {o : Out} → AddDcidEnds (itemOf f) (f .retirePriorTo) v o → length (kept v f) < v .dlimit → (held v f ≡ true → length (v .dcids) ≤ v .dlimit) → WithinLimit v f o
+limit-within : (v : View) (f : NewConnectionId) {o : Out} → AddDcidEnds (itemOf f) (f .retirePriorTo) v o → length (kept v f) < v .dcidLimit → (held v f ≡ true → length (v .dcids) ≤ v .dcidLimit) → WithinLimit v f o
 limit-within v f (rejects n k) l g z = absurd (omega arith)
 limit-within v f (again e) l g z = g e
 limit-within v f (late4 n k m) l g z = absurd (omega arith)
@@ -222,17 +223,17 @@ limit-within v f (adds n u q r) l g z = simp length-append (omega (arith, ap len
 
 limited : MetUnless newId filled WithinLimit
 limited = met-unless newId WithinLimit filled (λ v f h e.
-    let u = or-neither (leb (v .dlimit) (length (kept v f))) _ e in
-    test v f (leb-false (v .dlimit) (length (kept v f)) (u .0)) (repeated v f) refl (u .1))
+    let u = or-neither (leb (v .dcidLimit) (length (kept v f))) _ e in
+    test v f (leb-false (v .dcidLimit) (length (kept v f)) (u .0)) (repeated v f) refl (u .1))
   where
-    test : (v : View) (f : NewConnectionId) → length (kept v f) < v .dlimit → (b : Bool) → repeated v f ≡ b → (b && ltb (v .dlimit) (length (v .dcids))) ≡ false → WithinLimit v f (step v (newId f))
-    test v f l true r e = limit-within v f (ends v f) l (λ c. ltb-false (v .dlimit) (length (v .dcids)) e)
+    test : (v : View) (f : NewConnectionId) → length (kept v f) < v .dcidLimit → (b : Bool) → repeated v f ≡ b → (b && ltb (v .dcidLimit) (length (v .dcids))) ≡ false → WithinLimit v f (step v (newId f))
+    test v f l true r e = limit-within v f (ends v f) l (λ c. ltb-false (v .dcidLimit) (length (v .dcids)) e)
     test v f l false r e = unrepeated (WithinLimit v f) v f r (λ z. absurd (omega arith)) (λ c. limit-within v f (ends v f) l (λ t. never (sym t ∙ c)))
 
 -- ---- nothing is forgotten
 
 record Kept (v : View) (o : Out) : Type 0 where
-  each : (s : ℕ) → has s (map seqOf (v .dcids)) ≡ true → (has s (map seqOf (o .view .dcids)) || has s (o .view .retire)) ≡ true
+  each : (s : ℕ) → has s (map seqOf (v .dcids)) ≡ true → (has s (map seqOf (o .view .dcids)) || has s (o .view .dcidsToRetire)) ≡ true
 
 -- the table is the same
 same : (v : View) (o : Out) → o .view .dcids ≡ v .dcids → Kept v o
@@ -254,7 +255,7 @@ lowered-keeps v b s e = test (leb b s) refl
   where
     test : (t : Bool) → leb b s ≡ t → (has s (map seqOf (keep (from b) (v .dcids))) || has s (queued b v)) ≡ true
     test true q = rw (has-from s b (v .dcids) (leb-true b s q) e)
-    test false q = rw (has-right s (v .retire) _ (has-below s b (v .dcids) (leb-false b s q) e), or-true)
+    test false q = rw (has-right s (v .dcidsToRetire) _ (has-below s b (v .dcids) (leb-false b s q) e), or-true)
 
 dcid-keeps : {x : Item} {b : ℕ} (v : View) {o : Out} → AddDcidEnds x b v o → Kept v o
 dcid-keeps v (rejects n k) = same v _ refl
@@ -263,7 +264,7 @@ dcid-keeps v (late4 n k m) = same v _ refl
 dcid-keeps v (late n k m t) = same v _ refl
 dcid-keeps {b = b} v (lowers m k n u q) = record { each = lowered-keeps v b }
 dcid-keeps {x} {b} v (renews n u q r t) = record { each = λ s e. longer x (keep (from b) (v .dcids)) (queued b v) s (lowered-keeps v b s e) }
-dcid-keeps {x} v (adds n u q r) = record { each = λ s e. longer x (v .dcids) (v .retire) s (rw e) }
+dcid-keeps {x} v (adds n u q r) = record { each = λ s e. longer x (v .dcids) (v .dcidsToRetire) s (rw e) }
 
 add-keeps : {x : Item} {advertise : Bool} (v : View) {o : Out} → AddScidEnds x advertise v o → Kept v o
 add-keeps v (refuses n k) = same v _ refl
@@ -280,13 +281,13 @@ retire-keeps v (frees x r a e l) = same v _ refl
 step-keeps : (v : View) (c : Call) → initial v c ≡ false → Kept v (step v c)
 step-keeps v (SetInitialDcid cid token path) i = never i
 step-keeps v (SetScidLimit n) i = same v _ refl
-step-keeps v (AddScid cid token advertise path leave) i = add-keeps v (add-scid-ends cid token advertise path v leave)
+step-keeps v (AddScid cid token advertise path retireIfNeeded) i = add-keeps v (add-scid-ends cid token advertise path v retireIfNeeded)
 step-keeps v (RetireScid s packet) i = retire-keeps v (retire-scid-ends s packet v)
 step-keeps v (AddDcid cid s token b) i = dcid-keeps v (add-dcid-ends cid s token b v)
 step-keeps v (MarkScidUsed s p) i = decided (Kept v) (any (hasSeq s) (v .scids)) (λ e. same v _ refl) (λ e. same v _ refl)
 step-keeps v (MarkDcidUsed s p) i = decided (Kept v) (any (hasSeq s) (v .dcids)) (λ e. record { each = λ t q. rw (map-used s p (v .dcids), q) }) (λ e. same v _ refl)
-step-keeps v (MarkScidToAdvertise s on) i = decided (Kept v) (on && leb queueSlots (length (v .advertise))) (λ e. same v _ refl) (λ e. same v _ refl)
-step-keeps v (MarkDcidToRetire s on) i = decided (Kept v) (on && leb queueSlots (length (v .retire))) (λ e. same v _ refl) (λ e. same v _ refl)
+step-keeps v (MarkScidToAdvertise s on) i = decided (Kept v) (on && leb queueSlots (length (v .scidsToAdvertise))) (λ e. same v _ refl) (λ e. same v _ refl)
+step-keeps v (MarkDcidToRetire s on) i = decided (Kept v) (on && leb queueSlots (length (v .dcidsToRetire))) (λ e. same v _ refl) (λ e. same v _ refl)
 step-keeps v (Ask q) i = same v _ refl
 
 -- ---- the peer's limit
@@ -348,11 +349,11 @@ fewer b s (x ∷ l) k e = test (eqb s (x .seq)) (leb (s + 1) (x .seq)) (leb b (x
     test false false true o p q e i n = omega (arith, i e)
     test false false false o p q e i n = i e
 
-raised-few : (v : View) {r : ℕ} → Raised v r → active v ≤ v .slimit → length (keep (from r) (v .scids)) < v .slimit
-raised-few v (spare k) a = omega (arith, length-keep (from (v .rpt)) (v .scids))
-raised-few v (lifts s e) a = let w = lowest-is (v .rpt) s (v .scids) e in omega (arith, fewer (v .rpt) s (v .scids) (w .0) (w .1))
+raised-few : (v : View) {r : ℕ} → Raised v r → active v ≤ v .scidLimit → length (keep (from r) (v .scids)) < v .scidLimit
+raised-few v (spare k) a = omega (arith, length-keep (from (v .retirePriorTo)) (v .scids))
+raised-few v (lifts s e) a = let w = lowest-is (v .retirePriorTo) s (v .scids) e in omega (arith, fewer (v .retirePriorTo) s (v .scids) (w .0) (w .1))
 
-peer-within : {x : Item} {advertise : Bool} (v : View) (i : Issue) {o : Out} → AddScidEnds x advertise v o → active v ≤ v .slimit → WithinPeerLimit v i o
+peer-within : {x : Item} {advertise : Bool} (v : View) (i : Issue) {o : Out} → AddScidEnds x advertise v o → active v ≤ v .scidLimit → WithinPeerLimit v i o
 peer-within v i (refuses n k) a z = absurd (omega arith)
 peer-within v i (raises n r k t) a z = absurd (omega arith)
 peer-within {x} v i (issues r t n p l q) a z = omega (arith, keep-one-more (from r) (v .scids) x, raised-few v t a)
@@ -365,14 +366,14 @@ not-nothing n e = let z : _≡_ {A = ℕ} 0 1 = cc in absurd (omega arith)
 own-above : {x : Item} {advertise : Bool} (v : View) (i : Issue) {o : Out} → Well v → AddScidEnds x advertise v o → IssuedAboveOwn v i o
 own-above v i h (refuses n k) m e = not-nothing m e
 own-above v i h (raises n r k t) m e = not-nothing m e
-own-above v i h (issues r t n p l q) m e = let z : v .next ≡ m = cc in omega (arith, raised-le v t h)
+own-above v i h (issues r t n p l q) m e = let z : v .nextScidSeq ≡ m = cc in omega (arith, raised-le v t h)
 
 -- ---- a retire of the packet's own ID
 
 own-packet : MetUnless retireId only OwnPacket
 own-packet = met-unless retireId OwnPacket only (λ v f h o x e s.
     let P : Out → Type 0 = Closes PROTOCOL-VIOLATION in
-    decided P (leb (v .next) (f .seq)) (λ e. (refl, refl)) (λ q. rw (o, e, s) (refl, refl)))
+    decided P (leb (v .nextScidSeq) (f .seq)) (λ e. (refl, refl)) (λ q. rw (o, e, s) (refl, refl)))
 
 -- ---- an issued ID is accepted until the peer retires it
 
@@ -411,14 +412,14 @@ used-id id s p x = decided (λ (y : Item). hasCid id y ≡ hasCid id x) (hasSeq 
 step-accepts : (v : View) (c : Call) → retiring v c ≡ false → Accepts v (step v c)
 step-accepts v (SetInitialDcid cid token path) i = alike v _ refl
 step-accepts v (SetScidLimit n) i = alike v _ refl
-step-accepts v (AddScid cid token advertise path leave) i = add-accepts v (add-scid-ends cid token advertise path v leave)
+step-accepts v (AddScid cid token advertise path retireIfNeeded) i = add-accepts v (add-scid-ends cid token advertise path v retireIfNeeded)
 step-accepts v (RetireScid s packet) i = never i
 step-accepts v (AddDcid cid s token b) i = dcid-accepts v (add-dcid-ends cid s token b v)
 step-accepts v (MarkScidUsed s p) i =
     decided (Accepts v) (any (hasSeq s) (v .scids)) (λ e. record { each = λ id q. any-moved (hasCid id) _ (used-id id s p) (v .scids) ∙ q }) (λ e. alike v _ refl)
 step-accepts v (MarkDcidUsed s p) i = decided (Accepts v) (any (hasSeq s) (v .dcids)) (λ e. alike v _ refl) (λ e. alike v _ refl)
-step-accepts v (MarkScidToAdvertise s on) i = decided (Accepts v) (on && leb queueSlots (length (v .advertise))) (λ e. alike v _ refl) (λ e. alike v _ refl)
-step-accepts v (MarkDcidToRetire s on) i = decided (Accepts v) (on && leb queueSlots (length (v .retire))) (λ e. alike v _ refl) (λ e. alike v _ refl)
+step-accepts v (MarkScidToAdvertise s on) i = decided (Accepts v) (on && leb queueSlots (length (v .scidsToAdvertise))) (λ e. alike v _ refl) (λ e. alike v _ refl)
+step-accepts v (MarkDcidToRetire s on) i = decided (Accepts v) (on && leb queueSlots (length (v .dcidsToRetire))) (λ e. alike v _ refl) (λ e. alike v _ refl)
 step-accepts v (Ask q) i = alike v _ refl
 
 -- ---- a retire takes out the sequence that it names, and no other
@@ -463,29 +464,29 @@ not-none (some a) e = (a, refl)
 given-retired : MetUnless retireId noneLeft GivenIsRetired
 given-retired = met-unless retireId GivenIsRetired noneLeft (λ v f h n x b e s.
     let w = or-neither (sole (f .seq) (v .scids)) _ n in
-    let r = not-none (lowestFrom (v .rpt) (without (f .seq) (v .scids))) (w .1) in
-    rw (lt-leb (v .next) (f .seq) b, w .0, e, s, r .1))
+    let r = not-none (lowestFrom (v .retirePriorTo) (without (f .seq) (v .scids))) (w .1) in
+    rw (lt-leb (v .nextScidSeq) (f .seq) b, w .0, e, s, r .1))
 
 -- ---- supply, and the limits of issuing
 
 supplied : MetUnless issueId noRoom Supplies
 supplied = met-unless issueId Supplies noRoom (λ v i h n z t a.
-    let u = or-neither (leb (v .slimit) (length (v .scids))) _ n in
-    let w = or-neither (leb maxSequence (v .next)) _ (u .1) in
-    let k : length (v .scids) < v .slimit = leb-false (v .slimit) (length (v .scids)) (u .0) in
-    rw (z, w .0, lt-ltb (length (v .scids)) (v .slimit) k, t, lt-leb (v .scap) (length (v .scids)) (omega (arith, h .limits .room, h .limits .slow)), w .1))
+    let u = or-neither (leb (v .scidLimit) (length (v .scids))) _ n in
+    let w = or-neither (leb maxSequence (v .nextScidSeq)) _ (u .1) in
+    let k : length (v .scids) < v .scidLimit = leb-false (v .scidLimit) (length (v .scids)) (u .0) in
+    rw (z, w .0, lt-ltb (length (v .scids)) (v .scidLimit) k, t, lt-leb (v .scidCapacity) (length (v .scids)) (omega (arith, h .limits .room, h .limits .slow)), w .1))
 
 total-limited : {x : Item} {advertise : Bool} (v : View) (i : Issue) {o : Out} → AddScidEnds x advertise v o → TotalLimited v i o
 total-limited v i (refuses n k) m e = not-nothing m e
 total-limited v i (raises n r k t) m e = not-nothing m e
-total-limited v i (issues r t n p l q) m e = let z : v .next ≡ m = cc in omega arith
+total-limited v i (issues r t n p l q) m e = let z : v .nextScidSeq ≡ m = cc in omega arith
 
 -- ---- the retire queue
 
 -- no call but a frame and the host's mark makes it longer
-module _ (v : View) (m : length (v .retire) ≤ retireLimit v) where
+module _ (v : View) (m : length (v .dcidsToRetire) ≤ retireLimit v) where
   abbrev Limited : Out → Type 0
-  Limited o = o .refusal ≡ 0 → length (o .view .retire) ≤ retireLimit v
+  Limited o = o .refusal ≡ 0 → length (o .view .dcidsToRetire) ≤ retireLimit v
 
   add-limited : {x : Item} {advertise : Bool} {o : Out} → AddScidEnds x advertise v o → Limited o
   add-limited (refuses n k) z = m
@@ -511,26 +512,26 @@ module _ (v : View) (m : length (v .retire) ≤ retireLimit v) where
   step-limited : (c : Call) → marking v c ≡ false → Limited (step v c)
   step-limited (SetInitialDcid cid token path) i = λ z. m
   step-limited (SetScidLimit n) i = λ z. m
-  step-limited (AddScid cid token advertise path leave) i = add-limited (add-scid-ends cid token advertise path v leave)
+  step-limited (AddScid cid token advertise path retireIfNeeded) i = add-limited (add-scid-ends cid token advertise path v retireIfNeeded)
   step-limited (RetireScid s packet) i = retire-limited (retire-scid-ends s packet v)
   step-limited (AddDcid cid s token b) i = dcid-limited (add-dcid-ends cid s token b v)
   step-limited (MarkScidUsed s p) i = decided Limited (any (hasSeq s) (v .scids)) (λ e z. m) (λ e z. m)
   step-limited (MarkDcidUsed s p) i = decided Limited (any (hasSeq s) (v .dcids)) (λ e z. m) (λ e z. m)
-  step-limited (MarkScidToAdvertise s on) i = decided Limited (on && leb queueSlots (length (v .advertise))) (λ e z. m) (λ e z. m)
+  step-limited (MarkScidToAdvertise s on) i = decided Limited (on && leb queueSlots (length (v .scidsToAdvertise))) (λ e z. m) (λ e z. m)
   step-limited (MarkDcidToRetire s true) i = never i
-  step-limited (MarkDcidToRetire s false) i = λ z. omega (arith, length-keep (λ (n : ℕ). not (eqb s n)) (v .retire))
+  step-limited (MarkDcidToRetire s false) i = λ z. omega (arith, length-keep (λ (n : ℕ). not (eqb s n)) (v .dcidsToRetire))
   step-limited (Ask q) i = λ z. m
 
-too-many : (w : View) → tooMany w ≡ true → retireFactor * w .dlimit < length (w .retire)
-too-many w t = ltb-true (retireFactor * w .dlimit) (length (w .retire)) t
+too-many : (w : View) → tooMany w ≡ true → retireFactor * w .dcidLimit < length (w .dcidsToRetire)
+too-many w t = ltb-true (retireFactor * w .dcidLimit) (length (w .dcidsToRetire)) t
 
-not-many : (w : View) → tooMany w ≡ false → length (w .retire) ≤ retireFactor * w .dlimit
-not-many w t = ltb-false (retireFactor * w .dlimit) (length (w .retire)) t
+not-many : (w : View) → tooMany w ≡ false → length (w .dcidsToRetire) ≤ retireFactor * w .dcidLimit
+not-many w t = ltb-false (retireFactor * w .dcidLimit) (length (w .dcidsToRetire)) t
 
 -- a frame that is no error for what it says, and gives nothing that is held, comes late, raises Retire Prior To, or is added
 module _ (v : View) (f : NewConnectionId) where
   abbrev queues : Bool
-  queues = comesLate v f && not (has (f .seq) (v .retire))
+  queues = comesLate v f && not (has (f .seq) (v .dcidsToRetire))
 
   plain : (P : Out → Type 0) → otherwise v f ≡ false
       → (queues ≡ true → increases v f ≡ false → P (queueLate (f .seq) v))
@@ -538,59 +539,59 @@ module _ (v : View) (f : NewConnectionId) where
       → (queues ≡ false → increases v f ≡ false → P (append (itemOf f) [] v))
       → P (step v (newId f))
   plain P n l r a =
-      let u = or-neither (v .zeroDcid) _ n in
+      let u = or-neither (v .zeroLengthDcid) _ n in
       let w = or-neither (held v f) _ (u .1) in
       let k : f .retirePriorTo ≤ f .seq = ltb-false (f .seq) (f .retirePriorTo) (w .1) in
-      decided P (v .zeroDcid) (λ e. never (sym e ∙ u .0)) (λ e.
+      decided P (v .zeroLengthDcid) (λ e. never (sym e ∙ u .0)) (λ e.
       optioned P (first (λ (y : Item). clashes y (itemOf f)) (v .dcids))
       (λ e. decided P (ltb (f .seq) (f .retirePriorTo)) (λ e. never (sym e ∙ w .1)) (λ e.
       decided P queues
-      (λ e. let q = and-both (comesLate v f) _ e in l e (le-ltb (v .largest) (f .retirePriorTo) (omega (arith, ltb-true (f .seq) (v .largest) (q .0)))))
+      (λ e. let q = and-both (comesLate v f) _ e in l e (le-ltb (v .largestPeerRetirePriorTo) (f .retirePriorTo) (omega (arith, ltb-true (f .seq) (v .largestPeerRetirePriorTo) (q .0)))))
       (λ q. decided P (increases v f) (λ e. r q e) (λ e. a q e))))
       (λ y e. never (sym (first-some (λ (y : Item). clashes y (itemOf f)) (v .dcids) y e) ∙ w .0)))
 
   -- what is in need of retirement, in each of the three
-  need-late : queues ≡ true → increases v f ≡ false → length (v .retire ++ (f .seq ∷ [])) ≡ inNeed v f
+  need-late : queues ≡ true → increases v f ≡ false → length (v .dcidsToRetire ++ (f .seq ∷ [])) ≡ inNeed v f
   need-late q e = rw (q, e) (simp length-append (omega arith))
 
   need-raised : queues ≡ false → increases v f ≡ true → length (queued (f .retirePriorTo) v) ≡ inNeed v f
   need-raised q e = rw (q, e) (simp (length-append, length-map) (omega arith))
 
-  need-same : queues ≡ false → increases v f ≡ false → length (v .retire) ≡ inNeed v f
+  need-same : queues ≡ false → increases v f ≡ false → length (v .dcidsToRetire) ≡ inNeed v f
   need-same q e = rw (q, e) (omega arith)
 
 queue-limited : MetUnless itself unlimited QueueLimited
 queue-limited = met-unless itself QueueLimited unlimited (λ v c h n.
     let u = or-neither (marking v c) _ n in
-    step-limited v (ltb-false (retireLimit v) (length (v .retire)) (u .1)) c (u .0))
+    step-limited v (ltb-false (retireLimit v) (length (v .dcidsToRetire)) (u .1)) c (u .0))
 
 -- the table is full, and nothing else refuses
 over-limit : MetUnless newId unfilled OverLimit
 over-limit = met-unless newId OverLimit unfilled (λ v f h g n l m k.
     let P : Out → Type 0 = Closes CONNECTION-ID-LIMIT-ERROR in
     let b : ℕ = f .retirePriorTo in
-    let full : dcap (v .dlimit) ≤ length (kept v f) = ltb-false (length (kept v f)) (dcap (v .dlimit)) g in
+    let full : dcap (v .dcidLimit) ≤ length (kept v f) = ltb-false (length (kept v f)) (dcap (v .dcidLimit)) g in
     plain v f P n
     (λ q e. never (sym (and-both (comesLate v f) _ q .0) ∙ l))
     (λ q e.
     decided P (ltb queueSlots (length (queued b v))) (λ t. absurd (omega (arith, need-raised v f q e, ltb-true queueSlots (length (queued b v)) t, h .limits .dhigh))) (λ t.
     decided P (tooMany (lowered b v)) (λ t. absurd (omega (arith, need-raised v f q e, too-many (lowered b v) t))) (λ t.
-    decided P (leb (dcap (v .dlimit)) (length (keep (from b) (v .dcids)))) (λ t. (refl, refl))
-    (λ t. absurd (omega (arith, ap length (kept-from v f (ltb-true (v .largest) b e)), leb-false (dcap (v .dlimit)) (length (keep (from b) (v .dcids))) t))))))
+    decided P (leb (dcap (v .dcidLimit)) (length (keep (from b) (v .dcids)))) (λ t. (refl, refl))
+    (λ t. absurd (omega (arith, ap length (kept-from v f (ltb-true (v .largestPeerRetirePriorTo) b e)), leb-false (dcap (v .dcidLimit)) (length (keep (from b) (v .dcids))) t))))))
     (λ q e.
-    decided P (leb (dcap (v .dlimit)) (length (v .dcids))) (λ t. (refl, refl))
-    (λ t. absurd (omega (arith, ap length (kept-all v f (ltb-false (v .largest) b e)), leb-false (dcap (v .dlimit)) (length (v .dcids)) t)))))
+    decided P (leb (dcap (v .dcidLimit)) (length (v .dcids))) (λ t. (refl, refl))
+    (λ t. absurd (omega (arith, ap length (kept-all v f (ltb-false (v .largestPeerRetirePriorTo) b e)), leb-false (dcap (v .dcidLimit)) (length (v .dcids)) t)))))
 
 -- with no more than the limit before, 128 is not reached
 many-to-retire : MetUnless newId crowded (TooManyToRetire PROTOCOL-VIOLATION)
 many-to-retire = met-unless newId (TooManyToRetire PROTOCOL-VIOLATION) crowded (λ v f h g n k.
     let P : Out → Type 0 = Closes PROTOCOL-VIOLATION in
     let b : ℕ = f .retirePriorTo in
-    let before : length (v .retire) ≤ retireLimit v = ltb-false (retireLimit v) (length (v .retire)) g in
+    let before : length (v .dcidsToRetire) ≤ retireLimit v = ltb-false (retireLimit v) (length (v .dcidsToRetire)) g in
     plain v f P n
     (λ q e.
-    let w : View = withRetire (v .retire ++ (f .seq ∷ [])) v in
-    decided P (leb queueSlots (length (v .retire))) (λ t. absurd (omega (arith, leb-true queueSlots (length (v .retire)) t, h .limits .dhigh))) (λ t.
+    let w : View = withDcidsToRetire (v .dcidsToRetire ++ (f .seq ∷ [])) v in
+    decided P (leb queueSlots (length (v .dcidsToRetire))) (λ t. absurd (omega (arith, leb-true queueSlots (length (v .dcidsToRetire)) t, h .limits .dhigh))) (λ t.
     decided P (tooMany w) (λ t. (refl, refl)) (λ t. absurd (omega (arith, need-late v f q e, not-many w t)))))
     (λ q e.
     decided P (ltb queueSlots (length (queued b v)))
@@ -598,7 +599,7 @@ many-to-retire = met-unless newId (TooManyToRetire PROTOCOL-VIOLATION) crowded (
     decided P (tooMany (lowered b v)) (λ t. (refl, refl)) (λ t. absurd (omega (arith, need-raised v f q e, not-many (lowered b v) t)))))
     (λ q e. absurd (omega (arith, need-same v f q e))))
   where
-    queued-few : (v : View) (b : ℕ) → length (queued b v) ≤ length (v .retire) + length (v .dcids)
+    queued-few : (v : View) (b : ℕ) → length (queued b v) ≤ length (v .dcidsToRetire) + length (v .dcids)
     queued-few v b = simp (length-append, length-map) (omega (arith, length-keep (below b) (v .dcids)))
 
 tracks-twice : MetUnless newId otherwise TracksTwice
@@ -607,8 +608,8 @@ tracks-twice = met-unless newId TracksTwice otherwise (λ v f h n k.
     let b : ℕ = f .retirePriorTo in
     plain v f P n
     (λ q e.
-    let w : View = withRetire (v .retire ++ (f .seq ∷ [])) v in
-    decided P (leb queueSlots (length (v .retire))) (λ t. absurd (omega (arith, length-append (v .retire) (f .seq ∷ []), need-late v f q e, leb-true queueSlots (length (v .retire)) t, h .limits .dhigh))) (λ t.
+    let w : View = withDcidsToRetire (v .dcidsToRetire ++ (f .seq ∷ [])) v in
+    decided P (leb queueSlots (length (v .dcidsToRetire))) (λ t. absurd (omega (arith, length-append (v .dcidsToRetire) (f .seq ∷ []), need-late v f q e, leb-true queueSlots (length (v .dcidsToRetire)) t, h .limits .dhigh))) (λ t.
     decided P (tooMany w) (λ t. absurd (omega (arith, need-late v f q e, too-many w t))) (λ t c. refl)))
     (λ q e.
     decided P (ltb queueSlots (length (queued b v))) (λ t. absurd (omega (arith, need-raised v f q e, ltb-true queueSlots (length (queued b v)) t, h .limits .dhigh))) (λ t.
@@ -617,7 +618,7 @@ tracks-twice = met-unless newId TracksTwice otherwise (λ v f h n k.
     (λ q e. appended (itemOf f) v []))
   where
     appended : (x : Item) (w : View) (ps : List UsedSeq) → (Closes CONNECTION-ID-LIMIT-ERROR (append x ps w) → ⊥) → append x ps w .refusal ≡ 0
-    appended x w ps = decided (λ (o : Out). (Closes CONNECTION-ID-LIMIT-ERROR o → ⊥) → o .refusal ≡ 0) (leb (dcap (w .dlimit)) (length (w .dcids))) (λ e c. absurd (c (refl, refl))) (λ e c. refl)
+    appended x w ps = decided (λ (o : Out). (Closes CONNECTION-ID-LIMIT-ERROR o → ⊥) → o .refusal ≡ 0) (leb (dcap (w .dcidLimit)) (length (w .dcids))) (λ e c. absurd (c (refl, refl))) (λ e c. refl)
 
 -- ---- the whole
 
@@ -628,7 +629,7 @@ conforms = record {
   increasesByOne = without-gap;
   acceptedUntilRetired = met-unless itself AcceptedUntilRetired retiring (λ v c h i. step-accepts v c i .each);
   othersStay = met retireId OthersStay (λ v f h. others-stay v f (retire-scid-ends (f .seq) (f .packet) v));
-  withinPeerLimit = met-unless issueId WithinPeerLimit excess (λ v i h x. peer-within v i (issue-ends v i) (ltb-false (v .slimit) (active v) x));
+  withinPeerLimit = met-unless issueId WithinPeerLimit excess (λ v i h x. peer-within v i (issue-ends v i) (ltb-false (v .scidLimit) (active v) x));
   withinLimit = limited;
   overLimit = over-limit;
   supplies = supplied;

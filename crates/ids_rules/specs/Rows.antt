@@ -19,19 +19,19 @@ use Rattle.ids_rules.specs.Bounds.{Row, stays, leaves, says, gives, cid,
 
 -- a view, its fields in their order: the tables; the limits and the capacity; the two marks; next, own Retire Prior To, the largest; the queues
 abbrev of : List Item → List Item → ℕ → ℕ → ℕ → Bool → Bool → ℕ → ℕ → ℕ → List ℕ → List ℕ → View
-of scids dcids dlimit slimit scap zeroScid zeroDcid next rpt largest advertise retire = record {
+of scids dcids dcidLimit scidLimit scidCapacity zeroScid zeroDcid next rpt largest advertise retire = record {
   scids = scids;
   dcids = dcids;
-  dlimit = dlimit;
-  slimit = slimit;
-  scap = scap;
-  zeroScid = zeroScid;
-  zeroDcid = zeroDcid;
-  next = next;
-  rpt = rpt;
-  largest = largest;
-  advertise = advertise;
-  retire = retire;
+  dcidLimit = dcidLimit;
+  scidLimit = scidLimit;
+  scidCapacity = scidCapacity;
+  zeroLengthScid = zeroScid;
+  zeroLengthDcid = zeroDcid;
+  nextScidSeq = next;
+  retirePriorTo = rpt;
+  largestPeerRetirePriorTo = largest;
+  scidsToAdvertise = advertise;
+  dcidsToRetire = retire;
 }
 
 abbrev token : ℕ → List ℕ

@@ -12,41 +12,41 @@ use Rattle.values.specs.Limits.{maxDcidLimit, minScidLimit, maxCidsCount, maxSe
 use Rattle.ids_rules.specs.Values.{Item, onPath, seqOf, hasSeq, from, below, clashes, repeats}
 use Rattle.values.specs.declared.used.UsedSeq.{UsedSeq}
 use Rattle.ids_rules.specs.View.{View, Nothing, Issued, Freed, Retired, Out, refused, accepted, dcap}
-use Rattle.ids_rules.specs.View.{withScids, withDcids, withSlimit, withScap, withZeroDcid, withNext, withRpt, withLargest, withAdvertise, withRetire}
+use Rattle.ids_rules.specs.With.{withScids, withDcids, withScidLimit, withScidCapacity, withZeroLengthDcid, withNextScidSeq, withRetirePriorTo, withLargestPeerRetirePriorTo, withScidsToAdvertise, withDcidsToRetire}
 
 -- ---- fresh: one item, sequence 0, limit 2, capacity 3, next 1
 
 abbrev pub fresh : ℕ → ConnectionId → ℕ → Option (List ℕ) → View
-fresh dlimit cid path token = record {
+fresh dcidLimit cid path token = record {
   scids = record { cid = cid; seq = 0; token = token; path = some path } ∷ [];
   dcids = [];
-  dlimit = dlimit;
-  slimit = 2;
-  scap = 3;
-  zeroScid = emptyId cid;
-  zeroDcid = false;
-  next = 1;
-  rpt = 0;
-  largest = 0;
-  advertise = [];
-  retire = [];
+  dcidLimit = dcidLimit;
+  scidLimit = 2;
+  scidCapacity = 3;
+  zeroLengthScid = emptyId cid;
+  zeroLengthDcid = false;
+  nextScidSeq = 1;
+  retirePriorTo = 0;
+  largestPeerRetirePriorTo = 0;
+  scidsToAdvertise = [];
+  dcidsToRetire = [];
 }
 
 -- a refused fresh call gives an all-zero state
 abbrev pub zeroView : View
-zeroView = record { scids = []; dcids = []; dlimit = 0; slimit = 0; scap = 0; zeroScid = false; zeroDcid = false; next = 0; rpt = 0; largest = 0; advertise = []; retire = [] }
+zeroView = record { scids = []; dcids = []; dcidLimit = 0; scidLimit = 0; scidCapacity = 0; zeroLengthScid = false; zeroLengthDcid = false; nextScidSeq = 0; retirePriorTo = 0; largestPeerRetirePriorTo = 0; scidsToAdvertise = []; dcidsToRetire = [] }
 
 abbrev pub freshFormed : ℕ → ConnectionId → Bool
-freshFormed dlimit cid = leb 1 dlimit && leb dlimit maxDcidLimit && idFormed cid
+freshFormed dcidLimit cid = leb 1 dcidLimit && leb dcidLimit maxDcidLimit && idFormed cid
 
 abbrev pub freshCall : ℕ → ConnectionId → ℕ → Option (List ℕ) → Out
-freshCall dlimit cid path token = cond (freshFormed dlimit cid) (accepted Nothing (fresh dlimit cid path token)) (refused 1 zeroView)
+freshCall dcidLimit cid path token = cond (freshFormed dcidLimit cid) (accepted Nothing (fresh dcidLimit cid path token)) (refused 1 zeroView)
 
 -- ---- source IDs
 
 -- clamps to 2..16 and only raises capacity
 abbrev pub setScidLimit : ℕ → View → Out
-setScidLimit n v = let limit : ℕ = max minScidLimit (min n maxCidsCount) in accepted Nothing (withSlimit limit (withScap (max (v .scap) (2 * limit - 1)) v))
+setScidLimit n v = let limit : ℕ = max minScidLimit (min n maxCidsCount) in accepted Nothing (withScidLimit limit (withScidCapacity (max (v .scidCapacity) (2 * limit - 1)) v))
 
 -- the lowest sequence not below b
 abbrev pub lowestFrom : ℕ → List Item → Option ℕ
@@ -59,25 +59,25 @@ marked s false l = keep (λ (n : ℕ). not (eqb s n)) l
 
 -- success adds at the end and raises next; with advertise the sequence goes to the end of the advertise queue, without, every earlier mark of it is removed
 abbrev pub issued : Item → Bool → View → View
-issued x advertise v = withScids (v .scids ++ (x ∷ [])) (withNext (v .next + 1) (withAdvertise (marked (v .next) advertise (v .advertise)) v))
+issued x advertise v = withScids (v .scids ++ (x ∷ [])) (withNextScidSeq (v .nextScidSeq + 1) (withScidsToAdvertise (marked (v .nextScidSeq) advertise (v .scidsToAdvertise)) v))
 
 -- no token: 2. Table full: 3. These keep the raised Retire Prior To, of the view w; 6 leaves the view v as it was
 abbrev pub issue : ConnectionId → Option (List ℕ) → Bool → Option ℕ → View → View → Out
 issue cid token advertise path v w =
     cond (not (present token)) (refused 2 w)
-    (cond (leb (w .scap) (length (w .scids))) (refused 3 w)
-    (cond (advertise && leb queueSlots (length (w .advertise))) (refused 6 v)
-    (accepted (Issued (w .next)) (issued (record { cid = cid; seq = w .next; token = token; path = path }) advertise w))))
+    (cond (leb (w .scidCapacity) (length (w .scids))) (refused 3 w)
+    (cond (advertise && leb queueSlots (length (w .scidsToAdvertise))) (refused 6 v)
+    (accepted (Issued (w .nextScidSeq)) (issued (record { cid = cid; seq = w .nextScidSeq; token = token; path = path }) advertise w))))
 
 -- zero-length source: 2. Next sequence 2^62: 7. At or above the limit: without leave to retire, 3; else own Retire Prior To
 -- becomes the lowest sequence not below it, plus 1; if there is none, 2
 abbrev pub addScid : ConnectionId → Option (List ℕ) → Bool → Option ℕ → Bool → View → Out
-addScid cid token advertise path leave v =
-    cond (v .zeroScid) (refused 2 v)
-    (cond (leb maxSequence (v .next)) (refused 7 v)
-    (cond (ltb (length (v .scids)) (v .slimit)) (issue cid token advertise path v v)
-    (cond (not leave) (refused 3 v)
-    (maybe (lowestFrom (v .rpt) (v .scids)) (refused 2 v) (λ s. issue cid token advertise path v (withRpt (s + 1) v))))))
+addScid cid token advertise path retireIfNeeded v =
+    cond (v .zeroLengthScid) (refused 2 v)
+    (cond (leb maxSequence (v .nextScidSeq)) (refused 7 v)
+    (cond (ltb (length (v .scids)) (v .scidLimit)) (issue cid token advertise path v v)
+    (cond (not retireIfNeeded) (refused 3 v)
+    (maybe (lowestFrom (v .retirePriorTo) (v .scids)) (refused 2 v) (λ s. issue cid token advertise path v (withRetirePriorTo (s + 1) v))))))
 
 -- the item s is the only one
 abbrev pub sole : ℕ → List Item → Bool
@@ -87,7 +87,7 @@ sole s l = leb (length l) 1 && any (hasSeq s) l
 abbrev pub taken : Item → ConnectionId → View → Out
 taken x packet w =
     cond (sameId (x .cid) packet) (refused 4 w)
-    (maybe (lowestFrom (w .rpt) (w .scids)) (refused 2 w) (λ s. accepted (Freed (x .path)) (withRpt s w)))
+    (maybe (lowestFrom (w .retirePriorTo) (w .scids)) (refused 2 w) (λ s. accepted (Freed (x .path)) (withRetirePriorTo s w)))
 
 abbrev pub without : ℕ → List Item → List Item
 without s l = keep (λ (x : Item). not (hasSeq s x)) l
@@ -95,7 +95,7 @@ without s l = keep (λ (x : Item). not (hasSeq s x)) l
 -- sequence >= next: 4. Only item: 2. Absent: success, no path. Otherwise the item is taken out first
 abbrev pub retireScid : ℕ → ConnectionId → View → Out
 retireScid s packet v =
-    cond (leb (v .next) s) (refused 4 v)
+    cond (leb (v .nextScidSeq) s) (refused 4 v)
     (cond (sole s (v .scids)) (refused 2 v)
     (maybe (first (hasSeq s) (v .scids)) (accepted (Freed none) v) (λ x. taken x packet (withScids (without s (v .scids)) v))))
 
@@ -104,21 +104,21 @@ retireScid s packet v =
 -- empties the table, adds sequence 0 and sets the zero-length mark
 abbrev pub setInitialDcid : ConnectionId → Option (List ℕ) → Option ℕ → View → Out
 setInitialDcid cid token path v =
-    accepted Nothing (withDcids (record { cid = cid; seq = 0; token = token; path = path } ∷ []) (withZeroDcid (emptyId cid) v))
+    accepted Nothing (withDcids (record { cid = cid; seq = 0; token = token; path = path } ∷ []) (withZeroLengthDcid (emptyId cid) v))
 
 -- the retire queue is longer than 4 x limit
 abbrev pub tooMany : View → Bool
-tooMany v = ltb (retireFactor * v .dlimit) (length (v .retire))
+tooMany v = ltb (retireFactor * v .dcidLimit) (length (v .dcidsToRetire))
 
 -- table full: 3. Add at the end, no path
 abbrev pub append : Item → List UsedSeq → View → Out
-append x pairs v = cond (leb (dcap (v .dlimit)) (length (v .dcids))) (refused 3 v) (accepted (Retired pairs) (withDcids (v .dcids ++ (x ∷ [])) v))
+append x pairs v = cond (leb (dcap (v .dcidLimit)) (length (v .dcids))) (refused 3 v) (accepted (Retired pairs) (withDcids (v .dcids ++ (x ∷ [])) v))
 
 -- a sequence below the largest Retire Prior To and not queued: 6 if 128 stand in the queue, else queue it; 4 if the queue is then longer than 4 x limit, else success
 abbrev pub queueLate : ℕ → View → Out
 queueLate s v =
-    cond (leb queueSlots (length (v .retire))) (refused 6 v)
-    (let w : View = withRetire (v .retire ++ (s ∷ [])) v in cond (tooMany w) (refused 4 w) (accepted (Retired []) w))
+    cond (leb queueSlots (length (v .dcidsToRetire))) (refused 6 v)
+    (let w : View = withDcidsToRetire (v .dcidsToRetire ++ (s ∷ [])) v in cond (tooMany w) (refused 4 w) (accepted (Retired []) w))
 
 -- (sequence, path) for those in use, in table order
 abbrev pub pairs : List Item → List UsedSeq
@@ -127,26 +127,26 @@ pairs (x ∷ l) = maybe (x .path) (pairs l) (λ p. record { seq = x .seq; path =
 
 -- lower sequences move to the queue in table order, and the largest is raised
 abbrev pub lowered : ℕ → View → View
-lowered b v = withDcids (keep (from b) (v .dcids)) (withRetire (v .retire ++ map seqOf (keep (below b) (v .dcids))) (withLargest b v))
+lowered b v = withDcids (keep (from b) (v .dcids)) (withDcidsToRetire (v .dcidsToRetire ++ map seqOf (keep (below b) (v .dcids))) (withLargestPeerRetirePriorTo b v))
 
 -- Retire Prior To above the largest: 6 if the queue and the lower ones come to more than 128, else move the lower ones; 4 if the queue is then longer than 4 x limit
 abbrev pub raise : Item → ℕ → View → Out
 raise x b v =
-    cond (ltb queueSlots (length (v .retire ++ map seqOf (keep (below b) (v .dcids))))) (refused 6 v)
+    cond (ltb queueSlots (length (v .dcidsToRetire ++ map seqOf (keep (below b) (v .dcids))))) (refused 6 v)
     (cond (tooMany (lowered b v)) (refused 4 (lowered b v)) (append x (pairs (keep (below b) (v .dcids))) (lowered b v)))
 
 -- Retire Prior To > sequence: 4. Sequence below the largest Retire Prior To and not queued: queue it
 abbrev pub addNew : Item → ℕ → View → Out
 addNew x b v =
     cond (ltb (x .seq) b) (refused 4 v)
-    (cond (ltb (x .seq) (v .largest) && not (has (x .seq) (v .retire))) (queueLate (x .seq) v)
-    (cond (ltb (v .largest) b) (raise x b v) (append x [] v)))
+    (cond (ltb (x .seq) (v .largestPeerRetirePriorTo) && not (has (x .seq) (v .dcidsToRetire))) (queueLate (x .seq) v)
+    (cond (ltb (v .largestPeerRetirePriorTo) b) (raise x b v) (append x [] v)))
 
 -- zero-length: 4. The first item with equal ID or sequence: if ID, sequence or token differs, 4, else success, nothing changed
 abbrev pub addDcid : ConnectionId → ℕ → List ℕ → ℕ → View → Out
 addDcid cid seq token b v =
     let x : Item = record { cid = cid; seq = seq; token = some token; path = none } in
-    cond (v .zeroDcid) (refused 4 v)
+    cond (v .zeroLengthDcid) (refused 4 v)
     (maybe (first (λ (y : Item). clashes y x) (v .dcids)) (addNew x b v) (λ y. cond (repeats y x) (accepted (Retired []) v) (refused 4 v)))
 
 -- ---- marks
@@ -163,7 +163,7 @@ markDcidUsed s p v = cond (any (hasSeq s) (v .dcids)) (accepted Nothing (withDci
 
 -- on: 6 if 128 stand, else to the end; off: every equal one out
 abbrev pub markScidToAdvertise : ℕ → Bool → View → Out
-markScidToAdvertise s on v = cond (on && leb queueSlots (length (v .advertise))) (refused 6 v) (accepted Nothing (withAdvertise (marked s on (v .advertise)) v))
+markScidToAdvertise s on v = cond (on && leb queueSlots (length (v .scidsToAdvertise))) (refused 6 v) (accepted Nothing (withScidsToAdvertise (marked s on (v .scidsToAdvertise)) v))
 
 abbrev pub markDcidToRetire : ℕ → Bool → View → Out
-markDcidToRetire s on v = cond (on && leb queueSlots (length (v .retire))) (refused 6 v) (accepted Nothing (withRetire (marked s on (v .retire)) v))
+markDcidToRetire s on v = cond (on && leb queueSlots (length (v .dcidsToRetire))) (refused 6 v) (accepted Nothing (withDcidsToRetire (marked s on (v .dcidsToRetire)) v))

@@ -28,12 +28,12 @@ abbrev pub seen : Out → Seen
 seen o = record {
   refusal = o .refusal;
   answer = o .answer;
-  limit = o .view .slimit;
-  capacity = o .view .scap;
-  retirePriorTo = o .view .rpt;
+  limit = o .view .scidLimit;
+  capacity = o .view .scidCapacity;
+  retirePriorTo = o .view .retirePriorTo;
   sources = map seqOf (o .view .scids);
   destinations = map seqOf (o .view .dcids);
-  queue = o .view .retire;
+  queue = o .view .dcidsToRetire;
 }
 
 -- from a fresh state of the destination limit, the calls before, and the last call: what is seen

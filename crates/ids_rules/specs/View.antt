@@ -12,63 +12,25 @@ pub record View : Type 0 where
   pub scids : List Item
   pub dcids : List Item
   -- how many destination IDs the peer may keep issued, and how many source IDs the peer allows us
-  pub dlimit : ℕ
-  pub slimit : ℕ
+  pub dcidLimit : ℕ
+  pub scidLimit : ℕ
   -- how many source items the table holds
-  pub scap : ℕ
+  pub scidCapacity : ℕ
   -- the zero-length marks
-  pub zeroScid : Bool
-  pub zeroDcid : Bool
+  pub zeroLengthScid : Bool
+  pub zeroLengthDcid : Bool
   -- the next source sequence
-  pub next : ℕ
+  pub nextScidSeq : ℕ
   -- our own Retire Prior To, and the largest of the peer
-  pub rpt : ℕ
-  pub largest : ℕ
+  pub retirePriorTo : ℕ
+  pub largestPeerRetirePriorTo : ℕ
   -- the source sequences to advertise, and the destination sequences to retire
-  pub advertise : List ℕ
-  pub retire : List ℕ
+  pub scidsToAdvertise : List ℕ
+  pub dcidsToRetire : List ℕ
 
 -- the capacity of the destination table
 abbrev pub dcap : ℕ → ℕ
-dcap dlimit = 2 * dlimit - 1
-
--- ---- a view with one field changed
-
-abbrev pub withScids : List Item → View → View
-withScids x v = record { scids = x; dcids = v .dcids; dlimit = v .dlimit; slimit = v .slimit; scap = v .scap; zeroScid = v .zeroScid; zeroDcid = v .zeroDcid; next = v .next; rpt = v .rpt; largest = v .largest; advertise = v .advertise; retire = v .retire }
-
-abbrev pub withDcids : List Item → View → View
-withDcids x v = record { scids = v .scids; dcids = x; dlimit = v .dlimit; slimit = v .slimit; scap = v .scap; zeroScid = v .zeroScid; zeroDcid = v .zeroDcid; next = v .next; rpt = v .rpt; largest = v .largest; advertise = v .advertise; retire = v .retire }
-
-abbrev pub withDlimit : ℕ → View → View
-withDlimit x v = record { scids = v .scids; dcids = v .dcids; dlimit = x; slimit = v .slimit; scap = v .scap; zeroScid = v .zeroScid; zeroDcid = v .zeroDcid; next = v .next; rpt = v .rpt; largest = v .largest; advertise = v .advertise; retire = v .retire }
-
-abbrev pub withSlimit : ℕ → View → View
-withSlimit x v = record { scids = v .scids; dcids = v .dcids; dlimit = v .dlimit; slimit = x; scap = v .scap; zeroScid = v .zeroScid; zeroDcid = v .zeroDcid; next = v .next; rpt = v .rpt; largest = v .largest; advertise = v .advertise; retire = v .retire }
-
-abbrev pub withScap : ℕ → View → View
-withScap x v = record { scids = v .scids; dcids = v .dcids; dlimit = v .dlimit; slimit = v .slimit; scap = x; zeroScid = v .zeroScid; zeroDcid = v .zeroDcid; next = v .next; rpt = v .rpt; largest = v .largest; advertise = v .advertise; retire = v .retire }
-
-abbrev pub withZeroScid : Bool → View → View
-withZeroScid x v = record { scids = v .scids; dcids = v .dcids; dlimit = v .dlimit; slimit = v .slimit; scap = v .scap; zeroScid = x; zeroDcid = v .zeroDcid; next = v .next; rpt = v .rpt; largest = v .largest; advertise = v .advertise; retire = v .retire }
-
-abbrev pub withZeroDcid : Bool → View → View
-withZeroDcid x v = record { scids = v .scids; dcids = v .dcids; dlimit = v .dlimit; slimit = v .slimit; scap = v .scap; zeroScid = v .zeroScid; zeroDcid = x; next = v .next; rpt = v .rpt; largest = v .largest; advertise = v .advertise; retire = v .retire }
-
-abbrev pub withNext : ℕ → View → View
-withNext x v = record { scids = v .scids; dcids = v .dcids; dlimit = v .dlimit; slimit = v .slimit; scap = v .scap; zeroScid = v .zeroScid; zeroDcid = v .zeroDcid; next = x; rpt = v .rpt; largest = v .largest; advertise = v .advertise; retire = v .retire }
-
-abbrev pub withRpt : ℕ → View → View
-withRpt x v = record { scids = v .scids; dcids = v .dcids; dlimit = v .dlimit; slimit = v .slimit; scap = v .scap; zeroScid = v .zeroScid; zeroDcid = v .zeroDcid; next = v .next; rpt = x; largest = v .largest; advertise = v .advertise; retire = v .retire }
-
-abbrev pub withLargest : ℕ → View → View
-withLargest x v = record { scids = v .scids; dcids = v .dcids; dlimit = v .dlimit; slimit = v .slimit; scap = v .scap; zeroScid = v .zeroScid; zeroDcid = v .zeroDcid; next = v .next; rpt = v .rpt; largest = x; advertise = v .advertise; retire = v .retire }
-
-abbrev pub withAdvertise : List ℕ → View → View
-withAdvertise x v = record { scids = v .scids; dcids = v .dcids; dlimit = v .dlimit; slimit = v .slimit; scap = v .scap; zeroScid = v .zeroScid; zeroDcid = v .zeroDcid; next = v .next; rpt = v .rpt; largest = v .largest; advertise = x; retire = v .retire }
-
-abbrev pub withRetire : List ℕ → View → View
-withRetire x v = record { scids = v .scids; dcids = v .dcids; dlimit = v .dlimit; slimit = v .slimit; scap = v .scap; zeroScid = v .zeroScid; zeroDcid = v .zeroDcid; next = v .next; rpt = v .rpt; largest = v .largest; advertise = v .advertise; retire = x }
+dcap dcidLimit = 2 * dcidLimit - 1
 
 -- ---- what a call answers beside the refusal's number
 

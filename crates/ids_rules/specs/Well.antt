@@ -21,15 +21,15 @@ distinct (x ∷ l) = not (any (clashes x) l) && distinct l
 
 -- destination limit 1..16; source limit 2..16, capacity odd, at most 31 and at least 2 x limit - 1
 abbrev pub limits : ℕ → ℕ → ℕ → List Bool
-limits dlimit slimit scap = leb 1 dlimit ∷ leb dlimit maxDcidLimit ∷ leb minScidLimit slimit ∷ leb slimit maxCidsCount ∷ eqb (scap % 2) 1 ∷ leb (2 * slimit - 1) scap ∷ leb scap tableSlots ∷ []
+limits dcidLimit scidLimit scidCapacity = leb 1 dcidLimit ∷ leb dcidLimit maxDcidLimit ∷ leb minScidLimit scidLimit ∷ leb scidLimit maxCidsCount ∷ eqb (scidCapacity % 2) 1 ∷ leb (2 * scidLimit - 1) scidCapacity ∷ leb scidCapacity tableSlots ∷ []
 
 -- 1 to capacity items, sequences strictly rising and below next; next is 1..2^62; own Retire Prior To is at most next
 abbrev pub source : ℕ → ℕ → ℕ → List Item → List Bool
-source scap next rpt l = leb 1 (length l) ∷ leb (length l) scap ∷ leb 1 next ∷ leb next maxSequence ∷ leb rpt next ∷ rising 0 next l ∷ all itemFormed l ∷ []
+source scidCapacity next rpt l = leb 1 (length l) ∷ leb (length l) scidCapacity ∷ leb 1 next ∷ leb next maxSequence ∷ leb rpt next ∷ rising 0 next l ∷ all itemFormed l ∷ []
 
 -- 0 to capacity items, no two with equal sequence or ID
 abbrev pub destination : ℕ → List Item → List Bool
-destination dlimit l = leb (length l) (dcap dlimit) ∷ distinct l ∷ all itemFormed l ∷ []
+destination dcidLimit l = leb (length l) (dcap dcidLimit) ∷ distinct l ∷ all itemFormed l ∷ []
 
 -- queues at most 128
 abbrev pub queues : List ℕ → List ℕ → List Bool
@@ -37,5 +37,5 @@ queues advertise retire = leb (length advertise) queueSlots ∷ leb (length reti
 
 abbrev pub well : View → Bool
 well v =
-    every (limits (v .dlimit) (v .slimit) (v .scap)) && every (source (v .scap) (v .next) (v .rpt) (v .scids))
-    && every (destination (v .dlimit) (v .dcids)) && every (queues (v .advertise) (v .retire))
+    every (limits (v .dcidLimit) (v .scidLimit) (v .scidCapacity)) && every (source (v .scidCapacity) (v .nextScidSeq) (v .retirePriorTo) (v .scids))
+    && every (destination (v .dcidLimit) (v .dcids)) && every (queues (v .scidsToAdvertise) (v .dcidsToRetire))

@@ -28,8 +28,8 @@ key = record { bytes = replicate tokenLen 9; present = true }
 abbrev item : ℕ → ℕ → Token → Item
 item s n k = record { seq = s; path = 3; cid = id n; token = k; «has_path» = true }
 
-abbrev state : (dlimit slimit capacity : ℕ) (source destination : Table) (next rpt : ℕ) (advertise retire : Queue) → Ids
-state dl sl c s d n r a q = record { source = s; destination = d; capacity = c; dlimit = dl; slimit = sl; «zero_source» = false; «zero_destination» = false; next = n; rpt = r; largest = 0; advertise = a; retire = q }
+abbrev state : (dcidLimit scidLimit capacity : ℕ) (source destination : Table) (next rpt : ℕ) (advertise retire : Queue) → Ids
+state dl sl c s d n r a q = record { scids = s; dcids = d; «scid_capacity» = c; «dcid_limit» = dl; «scid_limit» = sl; «zero_length_scid» = false; «zero_length_dcid» = false; «next_scid_seq» = n; «retire_prior_to» = r; «largest_peer_retire_prior_to» = 0; «scids_to_advertise» = a; «dcids_to_retire» = q }
 
 -- it is not well formed, and this conjunct alone does not hold
 abbrev Breaks : ℕ → Ids → Type 0

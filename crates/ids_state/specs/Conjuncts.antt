@@ -42,22 +42,22 @@ otherCid x y = not (sameId (x .cid) (y .cid))
 
 abbrev pub conjuncts : Ids → List Bool
 conjuncts t =
-    (leb 1 (t .dlimit) && leb (t .dlimit) maxDcidLimit)
-    ∷ (leb minScidLimit (t .slimit) && leb (t .slimit) maxCidsCount)
-    ∷ (eqb (t .capacity % 2) 1 && leb (2 * t .slimit - 1) (t .capacity) && leb (t .capacity) tableSlots)
-    ∷ (leb 1 (t .source .count) && leb (t .source .count) (t .capacity))
-    ∷ risingBelow (t .source) (t .next)
-    ∷ leb (t .destination .count) (2 * t .dlimit - 1)
-    ∷ pairwise otherSeq (live (t .destination))
-    ∷ pairwise otherCid (live (t .destination))
-    ∷ (all tokened (live (t .source)) && all tokened (live (t .destination)))
-    ∷ (leb 1 (t .next) && leb (t .next) maxSequence)
-    ∷ leb (t .rpt) (t .next)
-    ∷ (leb (t .advertise .count) queueSlots && leb (t .retire .count) queueSlots)
-    ∷ (all identified (live (t .source)) && all identified (live (t .destination)))
-    ∷ (all absentZero (live (t .source)) && all absentZero (live (t .destination)))
-    ∷ (tailZero (t .source) && tailZero (t .destination))
-    ∷ (queueFormed (t .advertise) && queueFormed (t .retire))
+    (leb 1 (t .«dcid_limit») && leb (t .«dcid_limit») maxDcidLimit)
+    ∷ (leb minScidLimit (t .«scid_limit») && leb (t .«scid_limit») maxCidsCount)
+    ∷ (eqb (t .«scid_capacity» % 2) 1 && leb (2 * t .«scid_limit» - 1) (t .«scid_capacity») && leb (t .«scid_capacity») tableSlots)
+    ∷ (leb 1 (t .scids .count) && leb (t .scids .count) (t .«scid_capacity»))
+    ∷ risingBelow (t .scids) (t .«next_scid_seq»)
+    ∷ leb (t .dcids .count) (2 * t .«dcid_limit» - 1)
+    ∷ pairwise otherSeq (live (t .dcids))
+    ∷ pairwise otherCid (live (t .dcids))
+    ∷ (all tokened (live (t .scids)) && all tokened (live (t .dcids)))
+    ∷ (leb 1 (t .«next_scid_seq») && leb (t .«next_scid_seq») maxSequence)
+    ∷ leb (t .«retire_prior_to») (t .«next_scid_seq»)
+    ∷ (leb (t .«scids_to_advertise» .count) queueSlots && leb (t .«dcids_to_retire» .count) queueSlots)
+    ∷ (all identified (live (t .scids)) && all identified (live (t .dcids)))
+    ∷ (all absentZero (live (t .scids)) && all absentZero (live (t .dcids)))
+    ∷ (tailZero (t .scids) && tailZero (t .dcids))
+    ∷ (queueFormed (t .«scids_to_advertise») && queueFormed (t .«dcids_to_retire»))
     ∷ []
 
 -- ---- they are all
@@ -99,19 +99,19 @@ apart-is l = pairwise-and otherSeq otherCid l
 module _ (t : Ids) where
   forward : wellFormed t ≡ true → every (conjuncts t) ≡ true
   forward w =
-      let p = and-both (bounded (t .dlimit) (t .slimit) (t .capacity) (t .source .count) (t .destination .count) (t .next) (t .rpt) (t .advertise .count) (t .retire .count)) _ w in
+      let p = and-both (bounded (t .«dcid_limit») (t .«scid_limit») (t .«scid_capacity») (t .scids .count) (t .dcids .count) (t .«next_scid_seq») (t .«retire_prior_to») (t .«scids_to_advertise» .count) (t .«dcids_to_retire» .count)) _ w in
       let b =
-      conj-each (leb 1 (t .dlimit))
-      (leb (t .dlimit) maxDcidLimit ∷ leb minScidLimit (t .slimit) ∷ leb (t .slimit) maxCidsCount ∷ eqb (t .capacity % 2) 1 ∷ leb (2 * t .slimit - 1) (t .capacity) ∷ leb (t .capacity) tableSlots
-      ∷ leb 1 (t .source .count) ∷ leb (t .source .count) (t .capacity) ∷ ltb (t .destination .count) (2 * t .dlimit) ∷ leb 1 (t .next) ∷ leb (t .next) maxSequence ∷ leb (t .rpt) (t .next)
-      ∷ leb (t .advertise .count) queueSlots ∷ leb (t .retire .count) queueSlots ∷ []) (p .0) in
-      let q = conj-each (sourcesFormed (t .source) (t .next)) (destinationsFormed (t .destination) ∷ queueFormed (t .advertise) ∷ queueFormed (t .retire) ∷ []) (p .1) in
-      let s = conj-each (all itemFormed (live (t .source))) (risingBelow (t .source) (t .next) ∷ tailZero (t .source) ∷ []) (q .0) in
-      let d = conj-each (all itemFormed (live (t .destination))) (pairwise apart (live (t .destination)) ∷ tailZero (t .destination) ∷ []) (q .1 .0) in
-      let i = items-of (live (t .source)) (s .0) in
-      let j = items-of (live (t .destination)) (d .0) in
-      let k = and-both (pairwise otherSeq (live (t .destination))) _ (sym (apart-is (live (t .destination))) ∙ d .1 .0) in
-      let few = le-leb (t .destination .count) (2 * t .dlimit - 1) (omega (arith, ltb-true (t .destination .count) (2 * t .dlimit) (b .1 .1 .1 .1 .1 .1 .1 .1 .1 .0))) in
+      conj-each (leb 1 (t .«dcid_limit»))
+      (leb (t .«dcid_limit») maxDcidLimit ∷ leb minScidLimit (t .«scid_limit») ∷ leb (t .«scid_limit») maxCidsCount ∷ eqb (t .«scid_capacity» % 2) 1 ∷ leb (2 * t .«scid_limit» - 1) (t .«scid_capacity») ∷ leb (t .«scid_capacity») tableSlots
+      ∷ leb 1 (t .scids .count) ∷ leb (t .scids .count) (t .«scid_capacity») ∷ ltb (t .dcids .count) (2 * t .«dcid_limit») ∷ leb 1 (t .«next_scid_seq») ∷ leb (t .«next_scid_seq») maxSequence ∷ leb (t .«retire_prior_to») (t .«next_scid_seq»)
+      ∷ leb (t .«scids_to_advertise» .count) queueSlots ∷ leb (t .«dcids_to_retire» .count) queueSlots ∷ []) (p .0) in
+      let q = conj-each (sourcesFormed (t .scids) (t .«next_scid_seq»)) (destinationsFormed (t .dcids) ∷ queueFormed (t .«scids_to_advertise») ∷ queueFormed (t .«dcids_to_retire») ∷ []) (p .1) in
+      let s = conj-each (all itemFormed (live (t .scids))) (risingBelow (t .scids) (t .«next_scid_seq») ∷ tailZero (t .scids) ∷ []) (q .0) in
+      let d = conj-each (all itemFormed (live (t .dcids))) (pairwise apart (live (t .dcids)) ∷ tailZero (t .dcids) ∷ []) (q .1 .0) in
+      let i = items-of (live (t .scids)) (s .0) in
+      let j = items-of (live (t .dcids)) (d .0) in
+      let k = and-both (pairwise otherSeq (live (t .dcids))) _ (sym (apart-is (live (t .dcids))) ∙ d .1 .0) in
+      let few = le-leb (t .dcids .count) (2 * t .«dcid_limit» - 1) (omega (arith, ltb-true (t .dcids .count) (2 * t .«dcid_limit») (b .1 .1 .1 .1 .1 .1 .1 .1 .1 .0))) in
       rw (
         b .0,
         b .1 .0,
@@ -146,21 +146,21 @@ module _ (t : Ids) where
   backward : every (conjuncts t) ≡ true → wellFormed t ≡ true
   backward w =
       let e = every-each (conjuncts t) w in
-      let c1 = and-both (leb 1 (t .dlimit)) _ (e .0) in
-      let c2 = and-both (leb minScidLimit (t .slimit)) _ (e .1 .0) in
-      let c3 = conj-each (eqb (t .capacity % 2) 1) (leb (2 * t .slimit - 1) (t .capacity) ∷ leb (t .capacity) tableSlots ∷ []) (e .1 .1 .0) in
-      let c4 = and-both (leb 1 (t .source .count)) _ (e .1 .1 .1 .0) in
-      let c9 = and-both (all tokened (live (t .source))) _ (e .1 .1 .1 .1 .1 .1 .1 .1 .0) in
-      let c10 = and-both (leb 1 (t .next)) _ (e .1 .1 .1 .1 .1 .1 .1 .1 .1 .0) in
-      let c12 = and-both (leb (t .advertise .count) queueSlots) _ (e .1 .1 .1 .1 .1 .1 .1 .1 .1 .1 .1 .0) in
-      let c13 = and-both (all identified (live (t .source))) _ (e .1 .1 .1 .1 .1 .1 .1 .1 .1 .1 .1 .1 .0) in
-      let c14 = and-both (all absentZero (live (t .source))) _ (e .1 .1 .1 .1 .1 .1 .1 .1 .1 .1 .1 .1 .1 .0) in
-      let c15 = and-both (tailZero (t .source)) _ (e .1 .1 .1 .1 .1 .1 .1 .1 .1 .1 .1 .1 .1 .1 .0) in
-      let c16 = and-both (queueFormed (t .advertise)) _ (e .1 .1 .1 .1 .1 .1 .1 .1 .1 .1 .1 .1 .1 .1 .1 .0) in
-      let few = lt-ltb (t .destination .count) (2 * t .dlimit) (omega (arith, leb-true (t .destination .count) (2 * t .dlimit - 1) (e .1 .1 .1 .1 .1 .0), leb-true 1 (t .dlimit) (c1 .0))) in
-      let i = items-from (live (t .source)) (record { tokens = c9 .0; ids = c13 .0; absents = c14 .0 }) in
-      let j = items-from (live (t .destination)) (record { tokens = c9 .1; ids = c13 .1; absents = c14 .1 }) in
-      let k : pairwise apart (live (t .destination)) ≡ true = apart-is (live (t .destination)) ∙ rw (e .1 .1 .1 .1 .1 .1 .0, e .1 .1 .1 .1 .1 .1 .1 .0) in
+      let c1 = and-both (leb 1 (t .«dcid_limit»)) _ (e .0) in
+      let c2 = and-both (leb minScidLimit (t .«scid_limit»)) _ (e .1 .0) in
+      let c3 = conj-each (eqb (t .«scid_capacity» % 2) 1) (leb (2 * t .«scid_limit» - 1) (t .«scid_capacity») ∷ leb (t .«scid_capacity») tableSlots ∷ []) (e .1 .1 .0) in
+      let c4 = and-both (leb 1 (t .scids .count)) _ (e .1 .1 .1 .0) in
+      let c9 = and-both (all tokened (live (t .scids))) _ (e .1 .1 .1 .1 .1 .1 .1 .1 .0) in
+      let c10 = and-both (leb 1 (t .«next_scid_seq»)) _ (e .1 .1 .1 .1 .1 .1 .1 .1 .1 .0) in
+      let c12 = and-both (leb (t .«scids_to_advertise» .count) queueSlots) _ (e .1 .1 .1 .1 .1 .1 .1 .1 .1 .1 .1 .0) in
+      let c13 = and-both (all identified (live (t .scids))) _ (e .1 .1 .1 .1 .1 .1 .1 .1 .1 .1 .1 .1 .0) in
+      let c14 = and-both (all absentZero (live (t .scids))) _ (e .1 .1 .1 .1 .1 .1 .1 .1 .1 .1 .1 .1 .1 .0) in
+      let c15 = and-both (tailZero (t .scids)) _ (e .1 .1 .1 .1 .1 .1 .1 .1 .1 .1 .1 .1 .1 .1 .0) in
+      let c16 = and-both (queueFormed (t .«scids_to_advertise»)) _ (e .1 .1 .1 .1 .1 .1 .1 .1 .1 .1 .1 .1 .1 .1 .1 .0) in
+      let few = lt-ltb (t .dcids .count) (2 * t .«dcid_limit») (omega (arith, leb-true (t .dcids .count) (2 * t .«dcid_limit» - 1) (e .1 .1 .1 .1 .1 .0), leb-true 1 (t .«dcid_limit») (c1 .0))) in
+      let i = items-from (live (t .scids)) (record { tokens = c9 .0; ids = c13 .0; absents = c14 .0 }) in
+      let j = items-from (live (t .dcids)) (record { tokens = c9 .1; ids = c13 .1; absents = c14 .1 }) in
+      let k : pairwise apart (live (t .dcids)) ≡ true = apart-is (live (t .dcids)) ∙ rw (e .1 .1 .1 .1 .1 .1 .0, e .1 .1 .1 .1 .1 .1 .1 .0) in
       rw (c1 .0, c1 .1, c2 .0, c2 .1, c3 .0, c3 .1 .0, c3 .1 .1 .0, c4 .0, c4 .1, few, c10 .0, c10 .1, e .1 .1 .1 .1 .1 .1 .1 .1 .1 .1 .0, c12 .0, c12 .1, i, e .1 .1 .1 .1 .0, c15 .0, j, k, c15 .1, c16 .0, c16 .1)
 
   pub sixteen : wellFormed t ≡ every (conjuncts t)

@@ -54,18 +54,18 @@ abbrev pub queueFormed : Queue → Bool
 queueFormed q = past nought queueSlots (q .count) (q .items)
 
 -- 1, 2, 3, 4, 6, 10, 11, 12
-abbrev pub bounded : (dlimit slimit capacity sources destinations next rpt advertised retired : ℕ) → Bool
-bounded dlimit slimit capacity sources destinations next rpt advertised retired =
-    leb 1 dlimit
-    && leb dlimit maxDcidLimit
-    && leb minScidLimit slimit
-    && leb slimit maxCidsCount
+abbrev pub bounded : (dcidLimit scidLimit capacity sources destinations next rpt advertised retired : ℕ) → Bool
+bounded dcidLimit scidLimit capacity sources destinations next rpt advertised retired =
+    leb 1 dcidLimit
+    && leb dcidLimit maxDcidLimit
+    && leb minScidLimit scidLimit
+    && leb scidLimit maxCidsCount
     && eqb (capacity % 2) 1
-    && leb (2 * slimit - 1) capacity
+    && leb (2 * scidLimit - 1) capacity
     && leb capacity tableSlots
     && leb 1 sources
     && leb sources capacity
-    && ltb destinations (2 * dlimit)
+    && ltb destinations (2 * dcidLimit)
     && leb 1 next
     && leb next maxSequence
     && leb rpt next
@@ -74,5 +74,5 @@ bounded dlimit slimit capacity sources destinations next rpt advertised retired 
 
 abbrev pub wellFormed : Ids → Bool
 wellFormed t =
-    bounded (t .dlimit) (t .slimit) (t .capacity) (t .source .count) (t .destination .count) (t .next) (t .rpt) (t .advertise .count) (t .retire .count)
-    && (sourcesFormed (t .source) (t .next) && destinationsFormed (t .destination) && queueFormed (t .advertise) && queueFormed (t .retire))
+    bounded (t .«dcid_limit») (t .«scid_limit») (t .«scid_capacity») (t .scids .count) (t .dcids .count) (t .«next_scid_seq») (t .«retire_prior_to») (t .«scids_to_advertise» .count) (t .«dcids_to_retire» .count)
+    && (sourcesFormed (t .scids) (t .«next_scid_seq») && destinationsFormed (t .dcids) && queueFormed (t .«scids_to_advertise») && queueFormed (t .«dcids_to_retire»))

@@ -169,37 +169,37 @@ module _ (t : Table) (long : length (t .items) ≡ tableSlots) (few : t .count �
 
 -- ---- the facts of a well-formed state
 
-pub record Bounds (dlimit slimit capacity sources destinations next rpt advertised retired : ℕ) : Type 0 where
-  pub dlimit-least : 1 ≤ dlimit
-  pub dlimit-most : dlimit ≤ maxDcidLimit
-  pub slimit-least : minScidLimit ≤ slimit
-  pub slimit-most : slimit ≤ maxCidsCount
+pub record Bounds (dcidLimit scidLimit capacity sources destinations next rpt advertised retired : ℕ) : Type 0 where
+  pub dcid-limit-least : 1 ≤ dcidLimit
+  pub dcid-limit-most : dcidLimit ≤ maxDcidLimit
+  pub scid-limit-least : minScidLimit ≤ scidLimit
+  pub scid-limit-most : scidLimit ≤ maxCidsCount
   pub odd : capacity % 2 ≡ 1
-  pub capacity-least : 2 * slimit - 1 ≤ capacity
+  pub capacity-least : 2 * scidLimit - 1 ≤ capacity
   pub capacity-most : capacity ≤ tableSlots
   pub sources-some : 1 ≤ sources
   pub sources-few : sources ≤ capacity
-  pub destinations-few : destinations < 2 * dlimit
+  pub destinations-few : destinations < 2 * dcidLimit
   pub next-least : 1 ≤ next
   pub next-most : next ≤ maxSequence
   pub rpt-most : rpt ≤ next
   pub advertised-few : advertised ≤ queueSlots
   pub retired-few : retired ≤ queueSlots
 
-pub bounds-of : (dlimit slimit capacity sources destinations next rpt advertised retired : ℕ)
-    → bounded dlimit slimit capacity sources destinations next rpt advertised retired ≡ true → Bounds dlimit slimit capacity sources destinations next rpt advertised retired
-bounds-of dlimit slimit capacity sources destinations next rpt advertised retired e =
+pub bounds-of : (dcidLimit scidLimit capacity sources destinations next rpt advertised retired : ℕ)
+    → bounded dcidLimit scidLimit capacity sources destinations next rpt advertised retired ≡ true → Bounds dcidLimit scidLimit capacity sources destinations next rpt advertised retired
+bounds-of dcidLimit scidLimit capacity sources destinations next rpt advertised retired e =
     let w =
-    conj-each (leb 1 dlimit)
-    (leb dlimit maxDcidLimit
-    ∷ leb minScidLimit slimit
-    ∷ leb slimit maxCidsCount
+    conj-each (leb 1 dcidLimit)
+    (leb dcidLimit maxDcidLimit
+    ∷ leb minScidLimit scidLimit
+    ∷ leb scidLimit maxCidsCount
     ∷ eqb (capacity % 2) 1
-    ∷ leb (2 * slimit - 1) capacity
+    ∷ leb (2 * scidLimit - 1) capacity
     ∷ leb capacity tableSlots
     ∷ leb 1 sources
     ∷ leb sources capacity
-    ∷ ltb destinations (2 * dlimit)
+    ∷ ltb destinations (2 * dcidLimit)
     ∷ leb 1 next
     ∷ leb next maxSequence
     ∷ leb rpt next
@@ -221,16 +221,16 @@ bounds-of dlimit slimit capacity sources destinations next rpt advertised retire
     let w13 = w12 .1 in
     let w14 = w13 .1 in
     record {
-      dlimit-least = leb-true 1 dlimit (w .0);
-      dlimit-most = leb-true dlimit maxDcidLimit (w1 .0);
-      slimit-least = leb-true minScidLimit slimit (w2 .0);
-      slimit-most = leb-true slimit maxCidsCount (w3 .0);
+      dcid-limit-least = leb-true 1 dcidLimit (w .0);
+      dcid-limit-most = leb-true dcidLimit maxDcidLimit (w1 .0);
+      scid-limit-least = leb-true minScidLimit scidLimit (w2 .0);
+      scid-limit-most = leb-true scidLimit maxCidsCount (w3 .0);
       odd = eqb-true (capacity % 2) 1 (w4 .0);
-      capacity-least = leb-true (2 * slimit - 1) capacity (w5 .0);
+      capacity-least = leb-true (2 * scidLimit - 1) capacity (w5 .0);
       capacity-most = leb-true capacity tableSlots (w6 .0);
       sources-some = leb-true 1 sources (w7 .0);
       sources-few = leb-true sources capacity (w8 .0);
-      destinations-few = ltb-true destinations (2 * dlimit) (w9 .0);
+      destinations-few = ltb-true destinations (2 * dcidLimit) (w9 .0);
       next-least = leb-true 1 next (w10 .0);
       next-most = leb-true next maxSequence (w11 .0);
       rpt-most = leb-true rpt next (w12 .0);
@@ -239,28 +239,28 @@ bounds-of dlimit slimit capacity sources destinations next rpt advertised retire
     }
 
 pub record Facts (t : Ids) : Type 0 where
-  pub bounds : Bounds (t .dlimit) (t .slimit) (t .capacity) (t .source .count) (t .destination .count) (t .next) (t .rpt) (t .advertise .count) (t .retire .count)
-  pub source-items : all itemFormed (live (t .source)) ≡ true
-  pub rises : risingBelow (t .source) (t .next) ≡ true
-  pub source-is : t .source .items ≡ padded tableSlots zeroItem (live (t .source))
-  pub destination-items : all itemFormed (live (t .destination)) ≡ true
-  pub distinct : pairwise apart (live (t .destination)) ≡ true
-  pub destination-is : t .destination .items ≡ padded tableSlots zeroItem (live (t .destination))
-  pub advertise-is : t .advertise .items ≡ padded queueSlots 0 (take (t .advertise .count) (t .advertise .items))
-  pub retire-is : t .retire .items ≡ padded queueSlots 0 (take (t .retire .count) (t .retire .items))
+  pub bounds : Bounds (t .«dcid_limit») (t .«scid_limit») (t .«scid_capacity») (t .scids .count) (t .dcids .count) (t .«next_scid_seq») (t .«retire_prior_to») (t .«scids_to_advertise» .count) (t .«dcids_to_retire» .count)
+  pub source-items : all itemFormed (live (t .scids)) ≡ true
+  pub rises : risingBelow (t .scids) (t .«next_scid_seq») ≡ true
+  pub source-is : t .scids .items ≡ padded tableSlots zeroItem (live (t .scids))
+  pub destination-items : all itemFormed (live (t .dcids)) ≡ true
+  pub distinct : pairwise apart (live (t .dcids)) ≡ true
+  pub destination-is : t .dcids .items ≡ padded tableSlots zeroItem (live (t .dcids))
+  pub advertise-is : t .«scids_to_advertise» .items ≡ padded queueSlots 0 (take (t .«scids_to_advertise» .count) (t .«scids_to_advertise» .items))
+  pub retire-is : t .«dcids_to_retire» .items ≡ padded queueSlots 0 (take (t .«dcids_to_retire» .count) (t .«dcids_to_retire» .items))
 
 pub facts : (t : Ids) → wellFormed t ≡ true → Facts t
 facts t e =
-    let s = t .source in
-    let d = t .destination in
-    let a = t .advertise in
-    let q = t .retire in
+    let s = t .scids in
+    let d = t .dcids in
+    let a = t .«scids_to_advertise» in
+    let q = t .«dcids_to_retire» in
     let w =
-    and-both (bounded (t .dlimit) (t .slimit) (t .capacity) (s .count) (d .count) (t .next) (t .rpt) (a .count) (q .count))
-    (sourcesFormed s (t .next) && destinationsFormed d && queueFormed a && queueFormed q) e in
-    let b = bounds-of (t .dlimit) (t .slimit) (t .capacity) (s .count) (d .count) (t .next) (t .rpt) (a .count) (q .count) (w .0) in
-    let v = conj-each (sourcesFormed s (t .next)) (destinationsFormed d ∷ queueFormed a ∷ queueFormed q ∷ []) (w .1) in
-    let x = conj-each (all itemFormed (live s)) (risingBelow s (t .next) ∷ tailZero s ∷ []) (v .0) in
+    and-both (bounded (t .«dcid_limit») (t .«scid_limit») (t .«scid_capacity») (s .count) (d .count) (t .«next_scid_seq») (t .«retire_prior_to») (a .count) (q .count))
+    (sourcesFormed s (t .«next_scid_seq») && destinationsFormed d && queueFormed a && queueFormed q) e in
+    let b = bounds-of (t .«dcid_limit») (t .«scid_limit») (t .«scid_capacity») (s .count) (d .count) (t .«next_scid_seq») (t .«retire_prior_to») (a .count) (q .count) (w .0) in
+    let v = conj-each (sourcesFormed s (t .«next_scid_seq»)) (destinationsFormed d ∷ queueFormed a ∷ queueFormed q ∷ []) (w .1) in
+    let x = conj-each (all itemFormed (live s)) (risingBelow s (t .«next_scid_seq») ∷ tailZero s ∷ []) (v .0) in
     let y = conj-each (all itemFormed (live d)) (pairwise apart (live d) ∷ tailZero d ∷ []) (v .1 .0) in
     record {
       bounds = b;
@@ -269,7 +269,7 @@ facts t e =
       source-is = past-is isZero zeroItem zero-is tableSlots (s .count) (s .items) (omega (arith, b .sources-few, b .capacity-most)) (x .1 .1 .0);
       destination-items = y .0;
       distinct = y .1 .0;
-      destination-is = past-is isZero zeroItem zero-is tableSlots (d .count) (d .items) (omega (arith, b .destinations-few, b .dlimit-most)) (y .1 .1 .0);
+      destination-is = past-is isZero zeroItem zero-is tableSlots (d .count) (d .items) (omega (arith, b .destinations-few, b .dcid-limit-most)) (y .1 .1 .0);
       advertise-is = past-is nought 0 nought-is queueSlots (a .count) (a .items) (b .advertised-few) (v .1 .1 .0);
       retire-is = past-is nought 0 nought-is queueSlots (q .count) (q .items) (b .retired-few) (v .1 .1 .1 .0);
     }

@@ -5,22 +5,22 @@ use tables::Table;
 #[repr(C)]
 pub struct Ids {
     // The source IDs, which we issued, and the destination IDs, which the peer issued.
-    pub source: Table,
-    pub destination: Table,
-    // How many items the source table may hold. Of the destination table it is 2 * dlimit - 1.
-    pub capacity: usize,
+    pub scids: Table,
+    pub dcids: Table,
+    // How many items the source table may hold. Of the destination table it is 2 * dcid_limit - 1.
+    pub scid_capacity: usize,
     // The most destination IDs that we store, and the most source IDs that the peer allows us.
-    pub dlimit: u64,
-    pub slimit: u64,
+    pub dcid_limit: u64,
+    pub scid_limit: u64,
     // The zero-length marks.
-    pub zero_source: bool,
-    pub zero_destination: bool,
+    pub zero_length_scid: bool,
+    pub zero_length_dcid: bool,
     // The next source sequence.
-    pub next: u64,
+    pub next_scid_seq: u64,
     // Our own Retire Prior To, and the largest of the peer.
-    pub rpt: u64,
-    pub largest: u64,
+    pub retire_prior_to: u64,
+    pub largest_peer_retire_prior_to: u64,
     // The source sequences to announce, and the destination sequences to retire.
-    pub advertise: Queue,
-    pub retire: Queue,
+    pub scids_to_advertise: Queue,
+    pub dcids_to_retire: Queue,
 }

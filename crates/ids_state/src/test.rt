@@ -77,35 +77,35 @@ fn destinations(t: Table) -> bool
     ok & far & z
 }
 
-// Nothing here can wrap, whatever the numbers are: the halves stand for 2 * slimit - 1 <= capacity and destinations < 2 * dlimit.
+// Nothing here can wrap, whatever the numbers are: the halves stand for 2 * scid_limit - 1 <= capacity and destinations < 2 * dcid_limit.
 fn within(
-    dlimit: u64,
-    slimit: u64,
+    dcid_limit: u64,
+    scid_limit: u64,
     capacity: usize,
     sources: usize,
     destinations: usize,
     next: u64,
-    rpt: u64,
+    retire_prior_to: u64,
     advertised: usize,
     retired: usize,
 ) -> bool
-    ensures { λ r. ⌜ r ≡ bounded dlimit slimit capacity sources destinations next rpt advertised retired ⌝ }
+    ensures { λ r. ⌜ r ≡ bounded «dcid_limit» «scid_limit» capacity sources destinations next «retire_prior_to» advertised retired ⌝ }
 {
     let half = (capacity / 2 + capacity % 2) as u64;
     let pairs = (destinations / 2) as u64;
-    (1 <= dlimit)
-        & (dlimit <= MAX_DCID_LIMIT)
-        & (MIN_SCID_LIMIT <= slimit)
-        & (slimit <= MAX_CIDS_COUNT)
+    (1 <= dcid_limit)
+        & (dcid_limit <= MAX_DCID_LIMIT)
+        & (MIN_SCID_LIMIT <= scid_limit)
+        & (scid_limit <= MAX_CIDS_COUNT)
         & (capacity % 2 == 1)
-        & (slimit <= half)
+        & (scid_limit <= half)
         & (capacity <= TABLE_SLOTS)
         & (1 <= sources)
         & (sources <= capacity)
-        & (pairs < dlimit)
+        & (pairs < dcid_limit)
         & (1 <= next)
         & (next <= MAX_SEQUENCE)
-        & (rpt <= next)
+        & (retire_prior_to <= next)
         & (advertised <= QUEUE_SLOTS)
         & (retired <= QUEUE_SLOTS)
 }
@@ -113,22 +113,22 @@ fn within(
 pub fn formed(t: Ids) -> bool
     ensures { λ r. ⌜ r ≡ wellFormed t ⌝ }
 {
-    let s = t.source;
-    let d = t.destination;
-    let a = t.advertise;
-    let q = t.retire;
+    let s = t.scids;
+    let d = t.dcids;
+    let a = t.scids_to_advertise;
+    let q = t.dcids_to_retire;
     if within(
-        t.dlimit,
-        t.slimit,
-        t.capacity,
+        t.dcid_limit,
+        t.scid_limit,
+        t.scid_capacity,
         s.count,
         d.count,
-        t.next,
-        t.rpt,
+        t.next_scid_seq,
+        t.retire_prior_to,
         a.count,
         q.count,
     ) {
-        let x = sources(s, t.next);
+        let x = sources(s, t.next_scid_seq);
         let y = destinations(d);
         let z = zeros::queue_formed(a);
         let w = zeros::queue_formed(q);

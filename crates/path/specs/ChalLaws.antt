@@ -19,7 +19,9 @@ use Rattle.challenges.specs.declared.sent.Challenge as CS
 use Rattle.paths_state.specs.Formed.{pathFormed}
 use Rattle.paths_state.specs.Laws.{path-facts}
 use Rattle.paths_state.specs.declared.state.Path as S
-use Rattle.paths_rules.specs.Path.{Path, Challenge, pop, receive, roomed, due, lastSize, matching, unmatched, carries, spans, largestAfter, validates, matched, respond, reached, promote, withAsk, withSent, withActive, rankValidated}
+use Rattle.paths_rules.specs.State.{Path, Challenge}
+use Rattle.paths_rules.specs.With.{withAsk, withSent, withActive}
+use Rattle.paths_rules.specs.Path.{pop, receive, roomed, due, lastSize, matching, unmatched, carries, spans, largestAfter, validates, matched, respond, reached, promote, rankValidated}
 use Rattle.path.specs.Reading.{chalView, chalOf, pathView, pathOf}
 use Rattle.path.specs.ReadingLaws.{chals-is}
 use Rattle.path.specs.FieldLaws.{back}

@@ -6,7 +6,8 @@ use native.Mathlib.Omega.{arith}
 use native.Mathlib.Nat.{div-lt-iff-lt-mul, div-mul-le-self, mul-le-mul-right, mul-comm}
 use Rattle.paths_state.specs.Formed.{pathFormed}
 use Rattle.paths_state.specs.declared.state.Path as S
-use Rattle.paths_rules.specs.Path.{gain, spend, withCredit, top}
+use Rattle.paths_rules.specs.With.{withCredit}
+use Rattle.paths_rules.specs.Path.{gain, spend, top}
 use Rattle.path.specs.Reading.{pathView, pathOf}
 use Rattle.path.specs.FieldLaws.{back}
 use Rattle.path.specs.Puts.{putCredit}

@@ -18,7 +18,9 @@ use Rattle.challenges.specs.declared.sent.Sent.{Sent}
 use Rattle.paths_state.specs.Formed.{pathFormed, seqFormed}
 use Rattle.paths_state.specs.Laws.{path-facts}
 use Rattle.paths_state.specs.declared.state.Path as S
-use Rattle.paths_rules.specs.Path.{Path, newPath, firstPath, unused, inUse, needsFrames, allowed, unlist, withAsk, withScid, withDcid, withActive, withVerified, withPing}
+use Rattle.paths_rules.specs.State.{Path}
+use Rattle.paths_rules.specs.With.{withAsk, withScid, withDcid, withActive, withVerified, withPing}
+use Rattle.paths_rules.specs.Path.{newPath, firstPath, unused, inUse, needsFrames, allowed, unlist}
 use Rattle.paths_rules.specs.Table.{pingInUse}
 use Rattle.path.specs.Reading.{pathView, pathOf}
 use Rattle.path.specs.ReadingLaws.{present-is, seq-is, path-is}

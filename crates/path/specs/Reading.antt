@@ -6,15 +6,15 @@ use Rattle.lists.specs.Defs.{given, maybe, present}
 use Rattle.challenges.specs.declared.sent.Challenge as C
 use Rattle.challenges.specs.Challenges.{waiting, standing, receivedOf, sentOf}
 use Rattle.paths_state.specs.declared.state.Path as S
-use Rattle.paths_rules.specs.Path.{Challenge, Path}
+use Rattle.paths_rules.specs.State.{Challenge, Path}
 
 -- ---- a challenge sent
 
 abbrev pub chalView : C.Challenge → Challenge
-chalView c = record { token = c .«data»; size = c .size; sent = c .sent .us; deadline = c .deadline .us }
+chalView c = record { «data» = c .«data»; size = c .size; sent = c .sent .us; deadline = c .deadline .us }
 
 abbrev pub chalOf : Challenge → C.Challenge
-chalOf c = record { «data» = c .token; size = c .size; sent = record { us = c .sent }; deadline = record { us = c .deadline } }
+chalOf c = record { «data» = c .«data»; size = c .size; sent = record { us = c .sent }; deadline = record { us = c .deadline } }
 
 -- ---- a path
 

@@ -14,7 +14,7 @@ use Rattle.challenges.specs.Laws.{received-is, sent-is}
 use Rattle.paths_state.specs.Formed.{seqFormed, pathFormed}
 use Rattle.paths_state.specs.Laws.{path-facts}
 use Rattle.paths_state.specs.declared.state.Path as S
-use Rattle.paths_rules.specs.Path.{Challenge, Path}
+use Rattle.paths_rules.specs.State.{Challenge, Path}
 use Rattle.path.specs.Reading.{chalView, chalOf, pathView, pathOf, seqOf}
 
 pub chals-is : (l : List C.Challenge) → map chalOf (map chalView l) ≡ l

@@ -18,7 +18,8 @@ use Rattle.challenges.specs.declared.sent.Challenge as CS
 use Rattle.paths_state.specs.Formed.{pathFormed}
 use Rattle.paths_state.specs.Laws.{path-facts}
 use Rattle.paths_state.specs.declared.state.Path as S
-use Rattle.paths_rules.specs.Path.{Path, Challenge, lossTime, challenge, send}
+use Rattle.paths_rules.specs.State.{Path, Challenge}
+use Rattle.paths_rules.specs.Path.{lossTime, challenge, send}
 use Rattle.path.specs.Reading.{chalView, chalOf, pathView, pathOf}
 use Rattle.path.specs.FieldLaws.{back}
 use Rattle.path.specs.Puts.{putSent}

@@ -20,7 +20,9 @@ use Rattle.challenges.specs.declared.sent.Challenge as CS
 use Rattle.paths_state.specs.Formed.{pathFormed}
 use Rattle.paths_state.specs.Laws.{path-facts}
 use Rattle.paths_state.specs.declared.state.Path as S
-use Rattle.paths_rules.specs.Path.{Path, Challenge, expire, failed, probing, timeout, withAsk, withLost, withSent}
+use Rattle.paths_rules.specs.State.{Path, Challenge}
+use Rattle.paths_rules.specs.With.{withAsk, withLost, withSent}
+use Rattle.paths_rules.specs.Path.{expire, failed, probing, timeout}
 use Rattle.path.specs.Reading.{chalView, chalOf, pathView, pathOf}
 use Rattle.path.specs.ReadingLaws.{chals-is, path-of}
 use Rattle.path.specs.FieldLaws.{back}

@@ -3,7 +3,7 @@ ghost use mathlib.Core.Path.{_≡_};
 ghost use mathlib.Core.Bool.{cond, true};
 ghost use Rattle.lists.specs.Defs.{given};
 ghost use Rattle.paths_state.specs.Formed.{pathFormed, seqFormed};
-ghost use Rattle.paths_rules.specs.Path.{withActive, withAsk, withDcid, withPing, withScid, withVerified};
+ghost use Rattle.paths_rules.specs.With.{withActive, withAsk, withDcid, withPing, withScid, withVerified};
 ghost use Rattle.paths_rules.specs.Table.{pingInUse};
 ghost use Rattle.path.specs.Reading.{pathOf, pathView};
 use crate::picks;
@@ -20,11 +20,11 @@ pub fn initiated(x: Path, ok: bool) -> Path
     u
 }
 
-pub fn with_scid(x: Path, ok: bool, has: bool, seq: u64) -> Path
-    requires { ⌜ (ok ≡ true → (pathFormed x ≡ true) × (seqFormed has seq ≡ true)) ⌝ }
-    ensures { λ r. ⌜ r ≡ cond ok (pathOf (withScid (given has seq) (pathView x))) x ⌝ }
+pub fn with_scid(x: Path, ok: bool, has_seq: bool, seq: u64) -> Path
+    requires { ⌜ (ok ≡ true → (pathFormed x ≡ true) × (seqFormed «has_seq» seq ≡ true)) ⌝ }
+    ensures { λ r. ⌜ r ≡ cond ok (pathOf (withScid (given «has_seq» seq) (pathView x))) x ⌝ }
 {
-    let flag = picks::pick_flag(ok, has, x.has_scid);
+    let flag = picks::pick_flag(ok, has_seq, x.has_scid);
     let n = picks::pick(ok, seq, x.scid_seq);
     let mut u = x;
     u.has_scid = flag;
@@ -32,11 +32,11 @@ pub fn with_scid(x: Path, ok: bool, has: bool, seq: u64) -> Path
     u
 }
 
-pub fn with_dcid(x: Path, ok: bool, has: bool, seq: u64) -> Path
-    requires { ⌜ (ok ≡ true → (pathFormed x ≡ true) × (seqFormed has seq ≡ true)) ⌝ }
-    ensures { λ r. ⌜ r ≡ cond ok (pathOf (withDcid (given has seq) (pathView x))) x ⌝ }
+pub fn with_dcid(x: Path, ok: bool, has_seq: bool, seq: u64) -> Path
+    requires { ⌜ (ok ≡ true → (pathFormed x ≡ true) × (seqFormed «has_seq» seq ≡ true)) ⌝ }
+    ensures { λ r. ⌜ r ≡ cond ok (pathOf (withDcid (given «has_seq» seq) (pathView x))) x ⌝ }
 {
-    let flag = picks::pick_flag(ok, has, x.has_dcid);
+    let flag = picks::pick_flag(ok, has_seq, x.has_dcid);
     let n = picks::pick(ok, seq, x.dcid_seq);
     let mut u = x;
     u.has_dcid = flag;

@@ -12,7 +12,8 @@ use borrow.Author.Tests.{eqb-true, eqb-false, ltb-true, ltb-false}
 use Rattle.lists.specs.Defs.{front}
 use Rattle.lists.specs.Bools.{and-both}
 use Rattle.paths_rules.specs.Calls.{refusal, Act, effect, answer, step, unlessKnown, Get, Pop, Send, Respond, Credit, Charge, Look, On, Multipath}
-use Rattle.paths_rules.specs.Path.{Path, zeroPath, gain, spend, send, respond, validates, matched}
+use Rattle.paths_rules.specs.State.{Path}
+use Rattle.paths_rules.specs.Path.{zeroPath, gain, spend, send, respond, validates, matched}
 use Rattle.paths_rules.specs.Table.{Answer, known, pathAt, Nothing, Responded}
 use Rattle.challenges.specs.Challenges.{spansOf, waitingOf}
 use Rattle.challenges.specs.declared.received.Waiting.{Waiting}

@@ -16,7 +16,8 @@ use Rattle.values.specs.declared.answers.Counted.{Counted}
 use Rattle.values.specs.declared.answers.Numbered.{Numbered}
 use Rattle.values.specs.declared.answers.Timed.{Timed}
 use Rattle.paths_rules.specs.Calls.{refusal, Read, Act, Call, effect, seen, answer, activeOut, step, Get, Allowed, Pop, Send, Respond, Look, GetActive, On, Ask}
-use Rattle.paths_rules.specs.Path.{Path, zeroPath, validates, matched, allowed, flagged}
+use Rattle.paths_rules.specs.State.{Path}
+use Rattle.paths_rules.specs.Path.{zeroPath, validates, matched, allowed, flagged}
 use Rattle.paths_rules.specs.Table.{Table, Answer, Out, refused, accepted, pathAt, known, withPaths, onPath, Nothing, Responded}
 use Rattle.challenges.specs.Challenges.{spansOf, waitingOf}
 use Rattle.challenges.specs.declared.received.Waiting.{Waiting}

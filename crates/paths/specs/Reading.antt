@@ -15,7 +15,8 @@ use Rattle.values.specs.declared.answers.Counted.{Counted}
 use Rattle.values.specs.declared.answers.Numbered.{Numbered}
 use Rattle.values.specs.declared.answers.Timed.{Timed}
 use Rattle.challenges.specs.Challenges.{spansOf}
-use Rattle.paths_rules.specs.Path.{Path, zeroPath}
+use Rattle.paths_rules.specs.State.{Path}
+use Rattle.paths_rules.specs.Path.{zeroPath}
 use Rattle.paths_rules.specs.Table.{Table, Answer, Out, Nothing, Inserted, Responded, Number, Flag, Maybe, Place, Whole, Found}
 use Rattle.paths_rules.specs.Calls.{Call, step}
 use Rattle.paths_state.specs.declared.state.Path as S

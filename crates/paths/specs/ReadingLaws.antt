@@ -10,7 +10,8 @@ use Rattle.lists.specs.Defs.{all, padded}
 use Rattle.lists.specs.Held.{take-padded, padded-push, Held, held-length, held-count, held-of, getD-in}
 use Rattle.lists.specs.Maps.{map-set, map-is}
 use Rattle.values.specs.Limits.{maxPaths}
-use Rattle.paths_rules.specs.Path.{Path, zeroPath}
+use Rattle.paths_rules.specs.State.{Path}
+use Rattle.paths_rules.specs.Path.{zeroPath}
 use Rattle.paths_rules.specs.Table.{Table, pathAt, withPaths}
 use Rattle.paths_state.specs.Formed.{live, wellFormed}
 use Rattle.paths_state.specs.Laws.{PathsWell, facts}

@@ -476,6 +476,7 @@ abbrev pub Frame : Type 0
 Frame = (p q : ℕ) (s : Paths) (c : CodeCall) → names (view s) (viewCall c) ≡ some q → (q ≡ p → ⊥) → item p (made s c) ≡ item p s
 
 -- a path with its listing set to b
+--| withListed (b : Bool) (x : Path) { listed = b }
 abbrev pub withListed : Bool → Path → Path
 withListed b x = record { pair = x .pair; «recv_chals» = x .«recv_chals»; «sent_chals» = x .«sent_chals»; «max_datagram_size» = x .«max_datagram_size»; «scid_seq» = x .«scid_seq»; «dcid_seq» = x .«dcid_seq»; «lost_chal» = x .«lost_chal»; «max_challenge_size» = x .«max_challenge_size»; «anti_ampl_limit» = x .«anti_ampl_limit»; state = x .state; «has_scid» = x .«has_scid»; «has_dcid» = x .«has_dcid»; active = x .active; «need_send_challenge» = x .«need_send_challenge»; «verified_peer_address» = x .«verified_peer_address»; «peer_verified_local_address» = x .«peer_verified_local_address»; «need_send_ping» = x .«need_send_ping»; listed = b }
 

@@ -38,6 +38,7 @@ use Rattle.paths.specs.Runs.{started, argsFormed, result, stateIn, refus
 use Rattle.paths.specs.Runs.{Applies, Complete, Malformed, OnlyRefuses, LeavesNothing, KeepsWell, FreshOne, FreshWell, RunsWell, NeverOne, IsRun, IsStart, Demand3, StartingAllowance, OneRun, Frame, InsertionFrame, InsertionUnlists, OnlyVerified, OnlyCredit, Held}
 use Rattle.paths_rules.specs.Calls as C
 use Rattle.paths_rules.specs.Path as R
+use Rattle.paths_rules.specs.State as Rec
 use Rattle.paths_rules.specs.Promise as P
 use Rattle.paths_rules.specs.Kept as K
 use Rattle.paths_rules.specs.Proof as D
@@ -203,7 +204,7 @@ malformed s c e =
 look-same : (v : Table) (q : ℕ) (r : Read) → after v (On q (Look r)) ≡ v
 look-same v q r =
     both Same (well v && true)
-    (both Same (eqb (C.refusal v q (Look r)) 0) (ap (λ (l : List R.Path). withPaths l v) (set-getD (v .paths) q R.zeroPath)) refl)
+    (both Same (eqb (C.refusal v q (Look r)) 0) (ap (λ (l : List Rec.Path). withPaths l v) (set-getD (v .paths) q R.zeroPath)) refl)
     refl
   where
     Same : Out → Type 0

@@ -19,7 +19,8 @@ use Rattle.values.specs.Address.{samePair}
 use Rattle.values.specs.Time.{deadlineOf}
 use Rattle.values.specs.declared.address.FourTuple.{FourTuple}
 use Rattle.values.specs.declared.time.Deadline.{Deadline}
-use Rattle.paths_rules.specs.Path.{Path, newPath, unlist, due}
+use Rattle.paths_rules.specs.State.{Path}
+use Rattle.paths_rules.specs.Path.{newPath, unlist, due}
 use Rattle.paths_rules.specs.Table.{pathAt, withPaths, onAll, appended, replaced, timer}
 use Rattle.paths_state.specs.Formed.{live}
 use Rattle.paths_state.specs.declared.state.Paths.{Paths}

@@ -13,7 +13,9 @@ use Rattle.values.specs.Limits.{maxPaths}
 use Rattle.values.specs.Address.{pairFormed}
 use Rattle.values.specs.declared.address.FourTuple.{FourTuple}
 use Rattle.values.specs.declared.answers.Numbered.{Numbered}
-use Rattle.paths_rules.specs.Path.{Path, flagged, listedAs, unused, withPing}
+use Rattle.paths_rules.specs.State.{Path}
+use Rattle.paths_rules.specs.With.{withPing}
+use Rattle.paths_rules.specs.Path.{flagged, listedAs, unused}
 use Rattle.paths_rules.specs.Table.{Inserted, Nothing, Out, accepted, appended, evict, fresh, freshCall, freshFormed, insert, onAll, pathAt, ping, pingAt, pingInUse, pingOn, refused, replaced, zeroTable}
 use Rattle.paths_rules.specs.Calls.{Insert}
 use Rattle.paths_state.specs.Formed.{wellFormed}

@@ -15,7 +15,7 @@ use Rattle.lists.specs.Held.{take-padded, held-of}
 use Rattle.lists.specs.Maps.{all-map}
 use Rattle.values.specs.Limits.{maxPaths, maxPathChalsRecv, maxPathChalsSent, maxLost}
 use Rattle.values.specs.declared.address.FourTuple.{FourTuple}
-use Rattle.paths_rules.specs.Path.{Challenge, Path}
+use Rattle.paths_rules.specs.State.{Challenge, Path}
 use Rattle.paths_rules.specs.Table.{Table, Out, refused}
 use Rattle.paths_rules.specs.Calls.{Call, Ping, callFormed, step, apply}
 use Rattle.challenges.specs.Challenges.{zeroChallenge, waiting, standing}

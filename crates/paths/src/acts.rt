@@ -103,15 +103,15 @@ pub fn dec_anti_ampl_limit_at(t: Paths, id: u64, length: u64) -> Placed
 }
 
 // The source sequence that the path uses, or none: then it is 0.
-pub fn set_scid_seq_at(t: Paths, id: u64, has: bool, seq: u64) -> Placed
-    ensures { λ r. ⌜ Puts t (r .path) (r .place) (r .answer) (doneCall t (seqFormed has seq) (C.On id (C.SetScid (given has seq))) .paths) (doneCall t (seqFormed has seq) (C.On id (C.SetScid (given has seq))) .answer) ⌝ }
+pub fn set_scid_seq_at(t: Paths, id: u64, has_seq: bool, seq: u64) -> Placed
+    ensures { λ r. ⌜ Puts t (r .path) (r .place) (r .answer) (doneCall t (seqFormed «has_seq» seq) (C.On id (C.SetScid (given «has_seq» seq))) .paths) (doneCall t (seqFormed «has_seq» seq) (C.On id (C.SetScid (given «has_seq» seq))) .answer) ⌝ }
 {
     let k = paths_state::look(t, id);
-    let f = has | (seq == 0);
+    let f = has_seq | (seq == 0);
     let n = refusal(k.formed & f, id, k.count);
     let x = k.path;
     let ok = n == ACCEPTED;
-    let y = path::with_scid(x, ok, has, seq);
+    let y = path::with_scid(x, ok, has_seq, seq);
     Placed {
         path: y,
         place: k.place,
@@ -120,15 +120,15 @@ pub fn set_scid_seq_at(t: Paths, id: u64, has: bool, seq: u64) -> Placed
 }
 
 // The destination sequence that the path uses, or none: then it is 0.
-pub fn set_dcid_seq_at(t: Paths, id: u64, has: bool, seq: u64) -> Placed
-    ensures { λ r. ⌜ Puts t (r .path) (r .place) (r .answer) (doneCall t (seqFormed has seq) (C.On id (C.SetDcid (given has seq))) .paths) (doneCall t (seqFormed has seq) (C.On id (C.SetDcid (given has seq))) .answer) ⌝ }
+pub fn set_dcid_seq_at(t: Paths, id: u64, has_seq: bool, seq: u64) -> Placed
+    ensures { λ r. ⌜ Puts t (r .path) (r .place) (r .answer) (doneCall t (seqFormed «has_seq» seq) (C.On id (C.SetDcid (given «has_seq» seq))) .paths) (doneCall t (seqFormed «has_seq» seq) (C.On id (C.SetDcid (given «has_seq» seq))) .answer) ⌝ }
 {
     let k = paths_state::look(t, id);
-    let f = has | (seq == 0);
+    let f = has_seq | (seq == 0);
     let n = refusal(k.formed & f, id, k.count);
     let x = k.path;
     let ok = n == ACCEPTED;
-    let y = path::with_dcid(x, ok, has, seq);
+    let y = path::with_dcid(x, ok, has_seq, seq);
     Placed {
         path: y,
         place: k.place,

@@ -175,18 +175,18 @@ pub fn state(t: Paths, id: u64) -> Counted
 }
 
 // The source sequence that the path uses, or none: then it is 0.
-pub fn set_scid_seq(t: Paths, id: u64, has: bool, seq: u64) -> DoneOut
-    ensures { λ r. ⌜ r ≡ doneCall t (seqFormed has seq) (C.On id (C.SetScid (given has seq))) ⌝ }
+pub fn set_scid_seq(t: Paths, id: u64, has_seq: bool, seq: u64) -> DoneOut
+    ensures { λ r. ⌜ r ≡ doneCall t (seqFormed «has_seq» seq) (C.On id (C.SetScid (given «has_seq» seq))) ⌝ }
 {
-    let p = acts::set_scid_seq_at(t, id, has, seq);
+    let p = acts::set_scid_seq_at(t, id, has_seq, seq);
     steps::put(t, p)
 }
 
 // The destination sequence that the path uses, or none: then it is 0.
-pub fn set_dcid_seq(t: Paths, id: u64, has: bool, seq: u64) -> DoneOut
-    ensures { λ r. ⌜ r ≡ doneCall t (seqFormed has seq) (C.On id (C.SetDcid (given has seq))) ⌝ }
+pub fn set_dcid_seq(t: Paths, id: u64, has_seq: bool, seq: u64) -> DoneOut
+    ensures { λ r. ⌜ r ≡ doneCall t (seqFormed «has_seq» seq) (C.On id (C.SetDcid (given «has_seq» seq))) ⌝ }
 {
-    let p = acts::set_dcid_seq_at(t, id, has, seq);
+    let p = acts::set_dcid_seq_at(t, id, has_seq, seq);
     steps::put(t, p)
 }
 
@@ -378,13 +378,13 @@ pub fn cmp_anti_ampl_limit(t: Paths, id: u64, wish: u64) -> Counted
 }
 
 // A ping is asked for; an absent pair is zero.
-pub fn mark_ping(t: Paths, has: bool, pair: FourTuple) -> DoneOut
-    ensures { λ r. ⌜ r ≡ doneCall t (optionalPair has pair) (C.Ping (given has pair)) ⌝ }
+pub fn mark_ping(t: Paths, has_pair: bool, pair: FourTuple) -> DoneOut
+    ensures { λ r. ⌜ r ≡ doneCall t (optionalPair «has_pair» pair) (C.Ping (given «has_pair» pair)) ⌝ }
 {
     let f = paths_state::formed(t);
-    let p = steps::pair_or_none(has, pair);
+    let p = steps::pair_or_none(has_pair, pair);
     if f & p {
-        changes::ping_step(t, has, pair)
+        changes::ping_step(t, has_pair, pair)
     } else {
         blanks::done(t, MALFORMED)
     }

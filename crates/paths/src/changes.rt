@@ -135,12 +135,12 @@ fn ping_found(t: Paths, f: Numbered, n: u8) -> DoneOut
     blanks::done(t, n)
 }
 
-pub fn ping_step(t: Paths, has: bool, pair: FourTuple) -> DoneOut
+pub fn ping_step(t: Paths, has_pair: bool, pair: FourTuple) -> DoneOut
     requires { ⌜ wellFormed t ≡ true ⌝ }
-    ensures { λ r. ⌜ r ≡ doneOf (T.ping (given has pair) (view t)) ⌝ }
+    ensures { λ r. ⌜ r ≡ doneOf (T.ping (given «has_pair» pair) (view t)) ⌝ }
 {
     if t.is_multipath {
-        if has {
+        if has_pair {
             let f = search::first_listed(t, pair);
             return ping_found(t, f, ACCEPTED);
         }

@@ -60,10 +60,10 @@ fn zero_pair(p: FourTuple) -> bool
 }
 
 // A pair of its form, or none: then it is zero.
-pub fn pair_or_none(has: bool, pair: FourTuple) -> bool
-    ensures { λ r. ⌜ r ≡ optionalPair has pair ⌝ }
+pub fn pair_or_none(has_pair: bool, pair: FourTuple) -> bool
+    ensures { λ r. ⌜ r ≡ optionalPair «has_pair» pair ⌝ }
 {
-    if has {
+    if has_pair {
         values::pair_formed(pair)
     } else {
         zero_pair(pair)

@@ -9,8 +9,11 @@ use Rattle.lists.specs.Defs.{maybe, front, firstWith}
 use Rattle.values.specs.declared.address.FourTuple.{FourTuple}
 use Rattle.values.specs.Address.{pairFormed}
 use Rattle.values.specs.Limits.{maxShift, maxPathChalsSent, maxMoment}
-use Rattle.paths_rules.specs.Path.{Path, receive, send, lossTime, respond, validates, matched, timeout, pop, gain, spend, withScid, withDcid, withActive}
-use Rattle.paths_rules.specs.Path.{withVerified, withAsk, validated, inUse, needsFrames, needsPadding, allowed, listedAs, flagged}
+use Rattle.paths_rules.specs.State.{Path}
+use Rattle.paths_rules.specs.With.{withScid, withDcid, withActive}
+use Rattle.paths_rules.specs.Path.{receive, send, lossTime, respond, validates, matched, timeout, pop, gain, spend}
+use Rattle.paths_rules.specs.With.{withVerified, withAsk}
+use Rattle.paths_rules.specs.Path.{validated, inUse, needsFrames, needsPadding, allowed, listedAs, flagged}
 use Rattle.paths_rules.specs.Table.{Table, Out, Answer, Nothing, Responded, Number, Flag, Maybe, Place, Whole, Found, refused, accepted, pathAt, known, onPath}
 use Rattle.paths_rules.specs.Table.{onAll, insert, ping, multipathOn, timer}
 use Rattle.paths_rules.specs.Well.{well}

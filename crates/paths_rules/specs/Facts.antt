@@ -13,7 +13,7 @@ use Rattle.lists.specs.Bools.{Each, and-both}
 use Rattle.values.specs.declared.address.FourTuple.{FourTuple}
 use Rattle.values.specs.Address.{pairFormed}
 use Rattle.values.specs.Limits.{maxPaths, maxPathChalsRecv, maxPathChalsSent, maxLost}
-use Rattle.paths_rules.specs.Path.{Challenge}
+use Rattle.paths_rules.specs.State.{Challenge}
 use Rattle.paths_rules.specs.Table.{Table}
 use Rattle.paths_rules.specs.Well.{bounds, inTime, parts, pathFormed, apart, well}
 

@@ -10,8 +10,11 @@ use Rattle.lists.specs.Bools.{and-both}
 use Rattle.lists.specs.Defs.{firstWith}
 use Rattle.values.specs.Limits.{maxProbingTimeouts, minClientInitialLen}
 use Rattle.values.specs.declared.address.FourTuple.{FourTuple}
-use Rattle.paths_rules.specs.Path.{Path, Challenge, expire, probing, timeout, respond, validated, largestAfter, withPing, withAsk, withLost, withSent}
-use Rattle.paths_rules.specs.Path.{withListed, failed, listedAs, flagged}
+use Rattle.paths_rules.specs.State.{Path, Challenge}
+use Rattle.paths_rules.specs.With.{withPing, withAsk, withLost, withSent}
+use Rattle.paths_rules.specs.Path.{expire, probing, timeout, respond, validated, largestAfter}
+use Rattle.paths_rules.specs.With.{withListed}
+use Rattle.paths_rules.specs.Path.{failed, listedAs, flagged}
 use Rattle.paths_rules.specs.Table.{Table, Out, Inserted, refused, pathAt, insert, pingAt, pingOn}
 use Rattle.paths_rules.specs.Well.{well}
 use Rattle.paths_rules.specs.Calls.{Act, Initiate, Pop, Receive, Send, Respond, Credit, Charge, SetScid, SetDcid, SetActive, Verify, Look, Call, On, Insert}

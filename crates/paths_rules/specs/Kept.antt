@@ -14,9 +14,11 @@ use Rattle.lists.specs.Search.{length-keep}
 use Rattle.values.specs.declared.address.FourTuple.{FourTuple}
 use Rattle.values.specs.Address.{pairFormed}
 use Rattle.values.specs.Limits.{maxPaths, maxPathChalsRecv, maxPathChalsSent, maxProbingTimeouts, maxShift, maxMoment, maxLost, minClientInitialLen}
-use Rattle.paths_rules.specs.Path.{Path, Challenge, zeroPath, newPath, roomed, lossTime, challenge, send, receive, pop, expire, probing, timeout, carries}
-use Rattle.paths_rules.specs.Path.{reached, largestAfter, respond, validated, unused, inUse, flagged, listedAs, unlist, failed, withPing, withSent, withAsk}
-use Rattle.paths_rules.specs.Path.{withLost}
+use Rattle.paths_rules.specs.State.{Path, Challenge}
+use Rattle.paths_rules.specs.Path.{zeroPath, newPath, roomed, lossTime, challenge, send, receive, pop, expire, probing, timeout, carries}
+use Rattle.paths_rules.specs.With.{withPing, withSent, withAsk}
+use Rattle.paths_rules.specs.Path.{reached, largestAfter, respond, validated, unused, inUse, flagged, listedAs, unlist, failed}
+use Rattle.paths_rules.specs.With.{withLost}
 use Rattle.paths_rules.specs.Table.{Table, Out, Nothing, refused, accepted, pathAt, known, onPath, onAll, fresh, zeroTable, appended, replaced, evict, insert}
 use Rattle.paths_rules.specs.Table.{pingAt, pingInUse, pingOn}
 use Rattle.paths_rules.specs.Well.{inTime, pathFormed, well}

@@ -1,3 +1,5 @@
+pub mod State
+pub mod With
 pub mod Path
 pub mod Table
 pub mod Well

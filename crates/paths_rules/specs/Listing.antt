@@ -9,7 +9,8 @@ use Rattle.lists.specs.Bools.{and-both}
 use Rattle.values.specs.declared.address.FourTuple.{FourTuple}
 use Rattle.values.specs.Address.{samePair}
 use Rattle.values.specs.Laws.{same-pair-is, same-pair-of}
-use Rattle.paths_rules.specs.Path.{Path, newPath, unlist, listedAs}
+use Rattle.paths_rules.specs.State.{Path}
+use Rattle.paths_rules.specs.Path.{newPath, unlist, listedAs}
 use Rattle.paths_rules.specs.Well.{apart}
 
 -- ---- y is listed only where x was, for the same pair

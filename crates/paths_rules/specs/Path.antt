@@ -9,33 +9,8 @@ use Rattle.lists.specs.Defs.{maybe, present, front, empty, keep}
 use Rattle.values.specs.declared.address.FourTuple.{FourTuple}
 use Rattle.values.specs.Address.{zeroPair, samePair}
 use Rattle.values.specs.Limits.{maxPathChalsRecv, maxProbingTimeouts, initialChalTimeout, minClientInitialLen, minPathProbeSize}
-
--- a challenge sent: its data, the packet's size, when it was sent, and when it counts as lost
-pub record Challenge : Type 0 where
-  pub token : ℕ
-  pub size : ℕ
-  pub sent : ℕ
-  pub deadline : ℕ
-
--- a path. `rank` is its state, `ask` says that a challenge is asked for, `datagram` is max_datagram_size, `peerVerified` says that the peer has
--- verified the local address
-pub record Path : Type 0 where
-  pub pair : FourTuple
-  pub datagram : ℕ
-  pub scid : Option ℕ
-  pub dcid : Option ℕ
-  pub active : Bool
-  pub rank : ℕ
-  pub received : List ℕ
-  pub sent : List Challenge
-  pub ask : Bool
-  pub lost : ℕ
-  pub largest : ℕ
-  pub verified : Bool
-  pub peerVerified : Bool
-  pub credit : ℕ
-  pub ping : Bool
-  pub listed : Bool
+use Rattle.paths_rules.specs.State.{Path, Challenge}
+use Rattle.paths_rules.specs.With.{withActive, withAsk, withCredit, withLargest, withListed, withLost, withPeerVerified, withRank, withReceived, withSent, withVerified}
 
 -- ---- the states, by rank. A rank is any number: being well formed asks nothing of it, promotion is the larger rank, and Validated is the rank 4 itself
 
@@ -67,50 +42,6 @@ firstPath a m = record { pair = a; datagram = m; scid = some 0; dcid = some 0; a
 abbrev pub zeroPath : Path
 zeroPath = record { pair = zeroPair; datagram = 0; scid = none; dcid = none; active = false; rank = 0; received = []; sent = []; ask = false; lost = 0; largest = 0; verified = false; peerVerified = false; credit = 0; ping = false; listed = false }
 
--- ---- a path with one field changed
-
-abbrev pub withScid : Option ℕ → Path → Path
-withScid v x = record { pair = x .pair; datagram = x .datagram; scid = v; dcid = x .dcid; active = x .active; rank = x .rank; received = x .received; sent = x .sent; ask = x .ask; lost = x .lost; largest = x .largest; verified = x .verified; peerVerified = x .peerVerified; credit = x .credit; ping = x .ping; listed = x .listed }
-
-abbrev pub withDcid : Option ℕ → Path → Path
-withDcid v x = record { pair = x .pair; datagram = x .datagram; scid = x .scid; dcid = v; active = x .active; rank = x .rank; received = x .received; sent = x .sent; ask = x .ask; lost = x .lost; largest = x .largest; verified = x .verified; peerVerified = x .peerVerified; credit = x .credit; ping = x .ping; listed = x .listed }
-
-abbrev pub withActive : Bool → Path → Path
-withActive v x = record { pair = x .pair; datagram = x .datagram; scid = x .scid; dcid = x .dcid; active = v; rank = x .rank; received = x .received; sent = x .sent; ask = x .ask; lost = x .lost; largest = x .largest; verified = x .verified; peerVerified = x .peerVerified; credit = x .credit; ping = x .ping; listed = x .listed }
-
-abbrev pub withRank : ℕ → Path → Path
-withRank v x = record { pair = x .pair; datagram = x .datagram; scid = x .scid; dcid = x .dcid; active = x .active; rank = v; received = x .received; sent = x .sent; ask = x .ask; lost = x .lost; largest = x .largest; verified = x .verified; peerVerified = x .peerVerified; credit = x .credit; ping = x .ping; listed = x .listed }
-
-abbrev pub withReceived : List ℕ → Path → Path
-withReceived v x = record { pair = x .pair; datagram = x .datagram; scid = x .scid; dcid = x .dcid; active = x .active; rank = x .rank; received = v; sent = x .sent; ask = x .ask; lost = x .lost; largest = x .largest; verified = x .verified; peerVerified = x .peerVerified; credit = x .credit; ping = x .ping; listed = x .listed }
-
-abbrev pub withSent : List Challenge → Path → Path
-withSent v x = record { pair = x .pair; datagram = x .datagram; scid = x .scid; dcid = x .dcid; active = x .active; rank = x .rank; received = x .received; sent = v; ask = x .ask; lost = x .lost; largest = x .largest; verified = x .verified; peerVerified = x .peerVerified; credit = x .credit; ping = x .ping; listed = x .listed }
-
-abbrev pub withAsk : Bool → Path → Path
-withAsk v x = record { pair = x .pair; datagram = x .datagram; scid = x .scid; dcid = x .dcid; active = x .active; rank = x .rank; received = x .received; sent = x .sent; ask = v; lost = x .lost; largest = x .largest; verified = x .verified; peerVerified = x .peerVerified; credit = x .credit; ping = x .ping; listed = x .listed }
-
-abbrev pub withLost : ℕ → Path → Path
-withLost v x = record { pair = x .pair; datagram = x .datagram; scid = x .scid; dcid = x .dcid; active = x .active; rank = x .rank; received = x .received; sent = x .sent; ask = x .ask; lost = v; largest = x .largest; verified = x .verified; peerVerified = x .peerVerified; credit = x .credit; ping = x .ping; listed = x .listed }
-
-abbrev pub withLargest : ℕ → Path → Path
-withLargest v x = record { pair = x .pair; datagram = x .datagram; scid = x .scid; dcid = x .dcid; active = x .active; rank = x .rank; received = x .received; sent = x .sent; ask = x .ask; lost = x .lost; largest = v; verified = x .verified; peerVerified = x .peerVerified; credit = x .credit; ping = x .ping; listed = x .listed }
-
-abbrev pub withVerified : Bool → Path → Path
-withVerified v x = record { pair = x .pair; datagram = x .datagram; scid = x .scid; dcid = x .dcid; active = x .active; rank = x .rank; received = x .received; sent = x .sent; ask = x .ask; lost = x .lost; largest = x .largest; verified = v; peerVerified = x .peerVerified; credit = x .credit; ping = x .ping; listed = x .listed }
-
-abbrev pub withPeerVerified : Bool → Path → Path
-withPeerVerified v x = record { pair = x .pair; datagram = x .datagram; scid = x .scid; dcid = x .dcid; active = x .active; rank = x .rank; received = x .received; sent = x .sent; ask = x .ask; lost = x .lost; largest = x .largest; verified = x .verified; peerVerified = v; credit = x .credit; ping = x .ping; listed = x .listed }
-
-abbrev pub withCredit : ℕ → Path → Path
-withCredit v x = record { pair = x .pair; datagram = x .datagram; scid = x .scid; dcid = x .dcid; active = x .active; rank = x .rank; received = x .received; sent = x .sent; ask = x .ask; lost = x .lost; largest = x .largest; verified = x .verified; peerVerified = x .peerVerified; credit = v; ping = x .ping; listed = x .listed }
-
-abbrev pub withPing : Bool → Path → Path
-withPing v x = record { pair = x .pair; datagram = x .datagram; scid = x .scid; dcid = x .dcid; active = x .active; rank = x .rank; received = x .received; sent = x .sent; ask = x .ask; lost = x .lost; largest = x .largest; verified = x .verified; peerVerified = x .peerVerified; credit = x .credit; ping = v; listed = x .listed }
-
-abbrev pub withListed : Bool → Path → Path
-withListed v x = record { pair = x .pair; datagram = x .datagram; scid = x .scid; dcid = x .dcid; active = x .active; rank = x .rank; received = x .received; sent = x .sent; ask = x .ask; lost = x .lost; largest = x .largest; verified = x .verified; peerVerified = x .peerVerified; credit = x .credit; ping = x .ping; listed = v }
-
 -- ---- challenges
 
 -- promotion only raises the rank
@@ -133,7 +64,7 @@ abbrev pub lossTime : ℕ → ℕ → ℕ
 lossTime now lost = now + initialChalTimeout * 2 ^ lost
 
 abbrev pub challenge : ℕ → ℕ → ℕ → ℕ → Challenge
-challenge d size now lost = record { token = d; size = size; sent = now; deadline = lossTime now lost }
+challenge d size now lost = record { «data» = d; size = size; sent = now; deadline = lossTime now lost }
 
 -- a challenge is sent: promote to Validating, nothing is asked for any more, it goes to the end
 abbrev pub send : ℕ → ℕ → ℕ → Path → Path
@@ -160,7 +91,7 @@ timeout now x = cond (probing x) (expire now (x .sent) x) x
 
 -- a challenge with this data
 abbrev pub carries : ℕ → Challenge → Bool
-carries d c = eqb (c .token) d
+carries d c = eqb (c .«data») d
 
 -- the sent challenges that a response matches, and the others, in order
 abbrev pub matching : ℕ → List Challenge → List Challenge

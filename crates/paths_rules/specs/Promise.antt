@@ -9,7 +9,8 @@ use lib.ListN.{length}
 use lib.Dec.{eqb}
 use Rattle.lists.specs.Defs.{firstWith}
 use Rattle.values.specs.declared.address.FourTuple.{FourTuple}
-use Rattle.paths_rules.specs.Path.{listedAs, withListed, validated}
+use Rattle.paths_rules.specs.With.{withListed}
+use Rattle.paths_rules.specs.Path.{listedAs, validated}
 use Rattle.paths_rules.specs.Table.{Table, Out, Inserted, freshCall, pathAt}
 use Rattle.paths_rules.specs.Well.{well}
 use Rattle.paths_rules.specs.Calls.{Act, Initiate, Pop, Receive, Send, Respond, Credit, Charge, SetScid, SetDcid, SetActive, Verify, Look, Call, On, Insert}

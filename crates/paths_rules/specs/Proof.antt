@@ -13,7 +13,8 @@ use borrow.Author.Tests.{eqb-true, eqb-false}
 use Rattle.lists.specs.Defs.{firstWith}
 use Rattle.lists.specs.Search.{first-below}
 use Rattle.values.specs.declared.address.FourTuple.{FourTuple}
-use Rattle.paths_rules.specs.Path.{Path, zeroPath, newPath, top, unused, unlist}
+use Rattle.paths_rules.specs.State.{Path}
+use Rattle.paths_rules.specs.Path.{zeroPath, newPath, top, unused, unlist}
 use Rattle.paths_rules.specs.Table.{Table, Out, Nothing, Inserted, refused, accepted, pathAt, fresh, freshFormed, zeroTable, appended, evict, insert}
 use Rattle.paths_rules.specs.Well.{well}
 use Rattle.paths_rules.specs.Calls.{Act, Initiate, Pop, Receive, Send, Respond, Credit, Charge, SetScid, SetDcid, SetActive, Verify, Look, Call, On, Insert}

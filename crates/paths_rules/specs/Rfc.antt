@@ -11,7 +11,8 @@ use lib.Dec.{eqb, leb, ltb}
 use Rattle.lists.specs.Defs.{any, all, empty, front}
 use Rattle.values.specs.declared.address.FourTuple.{FourTuple}
 use Rattle.values.specs.Limits.{maxShift, maxMoment, maxPathChalsRecv, maxPathChalsSent, maxProbingTimeouts, minClientInitialLen, minPathProbeSize}
-use Rattle.paths_rules.specs.Path.{Path, Challenge, rankFailed, challenge, lossTime, carries, probing, validated, validates, due}
+use Rattle.paths_rules.specs.State.{Path, Challenge}
+use Rattle.paths_rules.specs.Path.{rankFailed, challenge, lossTime, carries, probing, validated, validates, due}
 use Rattle.paths_rules.specs.Table.{Table, Out, Number, Flag, Maybe, pathAt, known, fresh}
 use Rattle.paths_rules.specs.Well.{well}
 use Rattle.paths_rules.specs.Calls.{Call, On, Insert, Timeout, Ask, Timer, Look, NeedsFrames, NeedsPadding, Allowed, Pop, Receive, Send, Respond, Credit, SetActive, Verify}

@@ -13,8 +13,10 @@ use borrow.Author.Tests.{leb-true, leb-false, ltb-true, ltb-false, eqb-true, eqb
 use Rattle.lists.specs.Defs.{any, empty, front, maybe, least, less, somes}
 use Rattle.lists.specs.Bools.{and-both}
 use Rattle.values.specs.Limits.{maxPathChalsSent, maxProbingTimeouts, minClientInitialLen}
-use Rattle.paths_rules.specs.Path.{Path, Challenge, zeroPath, expire, probing, timeout, carries, matching, unmatched, lastSize, reached, largestAfter, challenge, respond, validated, validates}
-use Rattle.paths_rules.specs.Path.{promote, rankFailed, rankValidating, rankValidatingMTU, rankValidated, withActive, withSent, withAsk, withLost, due}
+use Rattle.paths_rules.specs.State.{Path, Challenge}
+use Rattle.paths_rules.specs.Path.{zeroPath, expire, probing, timeout, carries, matching, unmatched, lastSize, reached, largestAfter, challenge, respond, validated, validates}
+use Rattle.paths_rules.specs.With.{withActive, withSent, withAsk, withLost}
+use Rattle.paths_rules.specs.Path.{promote, rankFailed, rankValidating, rankValidatingMTU, rankValidated, due}
 use Rattle.paths_rules.specs.Table.{Table, Out, Answer, Nothing, Inserted, Number, Flag, Maybe, refused, accepted, pathAt, known, onPath, insert, fresh, freshFormed, zeroTable, timer as timerOf}
 use Rattle.paths_rules.specs.Calls.{Act, Initiate, Pop, Receive, Send, Respond, Credit, Charge, SetScid, SetDcid, SetActive, Verify, Look, NeedsFrames}
 use Rattle.paths_rules.specs.Calls.{NeedsPadding, Call, On, isMoment, step, after, run, effect, refusal, answer}

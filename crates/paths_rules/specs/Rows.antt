@@ -8,8 +8,9 @@ use mathlib.Core.Option.{Option, none, some}
 use lib.ListN.{replicate}
 use Rattle.values.specs.declared.address.Address.{Address}
 use Rattle.values.specs.declared.address.FourTuple.{FourTuple}
-use Rattle.paths_rules.specs.Path.{Path, Challenge, withScid, withDcid, withActive, withRank, withReceived, withSent, withAsk, withLost, withLargest}
-use Rattle.paths_rules.specs.Path.{withVerified, withPeerVerified, withCredit, withPing, withListed}
+use Rattle.paths_rules.specs.State.{Path, Challenge}
+use Rattle.paths_rules.specs.With.{withScid, withDcid, withActive, withRank, withReceived, withSent, withAsk, withLost, withLargest}
+use Rattle.paths_rules.specs.With.{withVerified, withPeerVerified, withCredit, withPing, withListed}
 use Rattle.paths_rules.specs.Table.{Table, Out, Answer, Nothing, Inserted, Responded, Number, Flag, Maybe, Place, Whole, Found, refused, accepted, freshCall}
 use Rattle.paths_rules.specs.Calls.{Read, Get, LocalAddr, RemoteAddr, State, Validated, Active, Initiated, NeedsFrames, NeedsPadding, Allowed, Act, Initiate}
 use Rattle.paths_rules.specs.Calls.{Pop, Receive, Send, Respond, Credit, Charge, SetScid, SetDcid, SetActive, Verify, Look, Len, IdOf, GetActive, Timer, Call}

@@ -10,7 +10,9 @@ use lib.Dec.{eqb, ltb}
 use borrow.Author.Tests.{eqb-true}
 use Rattle.lists.specs.Defs.{firstWith}
 use Rattle.values.specs.declared.address.FourTuple.{FourTuple}
-use Rattle.paths_rules.specs.Path.{Path, zeroPath, newPath, timeout, unlist, withPing, inUse, unused, flagged, listedAs}
+use Rattle.paths_rules.specs.State.{Path}
+use Rattle.paths_rules.specs.With.{withPing}
+use Rattle.paths_rules.specs.Path.{zeroPath, newPath, timeout, unlist, inUse, unused, flagged, listedAs}
 use Rattle.paths_rules.specs.Table.{Table, Out, Inserted, refused, accepted, pathAt, withPaths, onPath, onAll, appended, replaced, evict, insert, pingAt}
 use Rattle.paths_rules.specs.Table.{pingInUse, pingOn, multipathOn}
 use Rattle.paths_rules.specs.Well.{well}

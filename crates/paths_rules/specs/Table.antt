@@ -10,7 +10,9 @@ use Rattle.values.specs.declared.address.Address.{Address}
 use Rattle.values.specs.declared.address.FourTuple.{FourTuple}
 use Rattle.values.specs.Address.{pairFormed}
 use Rattle.values.specs.Limits.{maxPaths}
-use Rattle.paths_rules.specs.Path.{Path, newPath, firstPath, zeroPath, unused, inUse, flagged, listedAs, unlist, withPing, due}
+use Rattle.paths_rules.specs.State.{Path}
+use Rattle.paths_rules.specs.With.{withPing}
+use Rattle.paths_rules.specs.Path.{newPath, firstPath, zeroPath, unused, inUse, flagged, listedAs, unlist, due}
 
 -- the ids are the places in the list
 pub record Table : Type 0 where

@@ -8,7 +8,7 @@ use Rattle.lists.specs.Defs.{every, all, pairwise, empty}
 use Rattle.values.specs.declared.address.FourTuple.{FourTuple}
 use Rattle.values.specs.Address.{pairFormed, samePair}
 use Rattle.values.specs.Limits.{maxPaths, maxPathChalsRecv, maxPathChalsSent, maxLost, maxMoment}
-use Rattle.paths_rules.specs.Path.{Path, Challenge}
+use Rattle.paths_rules.specs.State.{Path, Challenge}
 use Rattle.paths_rules.specs.Table.{Table}
 
 -- path limit 1..8; 1 to limit paths

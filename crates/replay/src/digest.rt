@@ -1,4 +1,4 @@
-// The digest of docs/TRACES.md: every field of a state in a fixed order, a word at a time.
+// The digest of docs/TRACES.md: every field of a state in its declared order, a word at a time.
 use timers::TimerTable;
 
 pub fn mix(h: u64, w: u64) -> u64 {
@@ -25,7 +25,7 @@ pub fn of_timers(t: TimerTable) -> u64 {
     let mut i: usize = 0;
     while i < 9 {
         let d = t.expires[i];
-        h = mix(mix_flag(h, d.set), d.at.us);
+        h = mix_flag(mix(h, d.at.us), d.set);
         i += 1;
     }
     h

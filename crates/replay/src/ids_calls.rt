@@ -100,14 +100,14 @@ fn written(s: Ids, r: Record, out: &mut [u8], at: usize) -> IdsLine {
     let mut u = s;
     let p = text::put_head(out, at, r.call, 0);
     if r.call == 0xe0 {
-        u.next = r.n0;
+        u.next_scid_seq = r.n0;
         return ended(u, out, p);
     }
     if r.call == 0xe1 {
-        u.rpt = r.n0;
+        u.retire_prior_to = r.n0;
         return ended(u, out, p);
     }
-    u.largest = r.n0;
+    u.largest_peer_retire_prior_to = r.n0;
     ended(u, out, p)
 }
 

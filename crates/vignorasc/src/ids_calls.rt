@@ -20,10 +20,15 @@ use values::Token;
 
 // One source ID, with sequence 0, on its path. A refused call gives the all-zero state.
 #[no_mangle]
-pub extern "C" fn vig_ids_fresh(dlimit: u64, cid: ConnectionId, path: u64, token: Token) -> DoneOut
-    ensures { λ r. ⌜ r ≡ freshIds dlimit cid path token ⌝ }
+pub extern "C" fn vig_ids_fresh(
+    dcid_limit: u64,
+    cid: ConnectionId,
+    path: u64,
+    token: Token,
+) -> DoneOut
+    ensures { λ r. ⌜ r ≡ freshIds «dcid_limit» cid path token ⌝ }
 {
-    ids::fresh(dlimit, cid, path, token)
+    ids::fresh(dcid_limit, cid, path, token)
 }
 
 // The destination table holds the ID alone, with sequence 0.
@@ -32,14 +37,14 @@ pub extern "C" fn vig_ids_set_initial_dcid(
     t: &mut Ids,
     cid: ConnectionId,
     token: Token,
-    has: bool,
+    has_path: bool,
     path: u64,
 ) -> Done
-    ensures { λ r. ⌜ R.Done (record { ids = now (t .exit); answer = r }) ≡ R.result (now (t .entry)) (R.SetInitialDcid cid token has path) ⌝ }
+    ensures { λ r. ⌜ R.Done (record { ids = now (t .exit); answer = r }) ≡ R.result (now (t .entry)) (R.SetInitialDcid cid token «has_path» path) ⌝ }
 {
-    let a = ids::set_initial_dcid_at(*t, cid, token, has, path);
-    t.destination = a.destination;
-    t.zero_destination = a.zero_destination;
+    let a = ids::set_initial_dcid_at(*t, cid, token, has_path, path);
+    t.dcids = a.dcids;
+    t.zero_length_dcid = a.zero_length_dcid;
     a.answer
 }
 
@@ -49,8 +54,8 @@ pub extern "C" fn vig_ids_set_scid_limit(t: &mut Ids, n: u64) -> Done
     ensures { λ r. ⌜ R.Done (record { ids = now (t .exit); answer = r }) ≡ R.result (now (t .entry)) (R.SetScidLimit n) ⌝ }
 {
     let a = ids::set_scid_limit_at(*t, n);
-    t.slimit = a.slimit;
-    t.capacity = a.capacity;
+    t.scid_limit = a.scid_limit;
+    t.scid_capacity = a.scid_capacity;
     a.answer
 }
 
@@ -84,7 +89,7 @@ pub extern "C" fn vig_ids_mark_scid_used(t: &mut Ids, seq: u64, path: u64) -> Do
     ensures { λ r. ⌜ R.Done (record { ids = now (t .exit); answer = r }) ≡ R.result (now (t .entry)) (R.MarkScidUsed seq path) ⌝ }
 {
     let a = ids::mark_scid_used_at(*t, seq, path);
-    t.source = a.table;
+    t.scids = a.table;
     a.answer
 }
 
@@ -94,7 +99,7 @@ pub extern "C" fn vig_ids_mark_dcid_used(t: &mut Ids, seq: u64, path: u64) -> Do
     ensures { λ r. ⌜ R.Done (record { ids = now (t .exit); answer = r }) ≡ R.result (now (t .entry)) (R.MarkDcidUsed seq path) ⌝ }
 {
     let a = ids::mark_dcid_used_at(*t, seq, path);
-    t.destination = a.table;
+    t.dcids = a.table;
     a.answer
 }
 
@@ -129,17 +134,17 @@ pub extern "C" fn vig_ids_add_scid(
     cid: ConnectionId,
     token: Token,
     advertise: bool,
-    has: bool,
+    has_path: bool,
     path: u64,
-    leave: bool,
+    retire_if_needed: bool,
 ) -> Counted
-    ensures { λ r. ⌜ R.Issued (record { ids = now (t .exit); answer = r }) ≡ R.result (now (t .entry)) (R.AddScid cid token advertise has path leave) ⌝ }
+    ensures { λ r. ⌜ R.Issued (record { ids = now (t .exit); answer = r }) ≡ R.result (now (t .entry)) (R.AddScid cid token advertise «has_path» path «retire_if_needed») ⌝ }
 {
-    let a = ids::add_scid_at(*t, cid, token, advertise, has, path, leave);
-    t.source = a.source;
-    t.advertise = a.advertise;
-    t.next = a.next;
-    t.rpt = a.rpt;
+    let a = ids::add_scid_at(*t, cid, token, advertise, has_path, path, retire_if_needed);
+    t.scids = a.scids;
+    t.scids_to_advertise = a.scids_to_advertise;
+    t.next_scid_seq = a.next_scid_seq;
+    t.retire_prior_to = a.retire_prior_to;
     a.answer
 }
 
@@ -165,8 +170,8 @@ pub extern "C" fn vig_ids_retire_scid(t: &mut Ids, seq: u64, packet: ConnectionI
     ensures { λ r. ⌜ R.Freed (record { ids = now (t .exit); answer = r }) ≡ R.result (now (t .entry)) (R.RetireScid seq packet) ⌝ }
 {
     let a = ids::retire_scid_at(*t, seq, packet);
-    t.source = a.source;
-    t.rpt = a.rpt;
+    t.scids = a.scids;
+    t.retire_prior_to = a.retire_prior_to;
     a.answer
 }
 
@@ -176,7 +181,7 @@ pub extern "C" fn vig_ids_mark_scid_to_advertise(t: &mut Ids, seq: u64, on: bool
     ensures { λ r. ⌜ R.Done (record { ids = now (t .exit); answer = r }) ≡ R.result (now (t .entry)) (R.MarkScidToAdvertise seq on) ⌝ }
 {
     let a = ids::mark_scid_to_advertise_at(*t, seq, on);
-    t.advertise = a.queue;
+    t.scids_to_advertise = a.queue;
     a.answer
 }
 
@@ -186,7 +191,7 @@ pub extern "C" fn vig_ids_mark_dcid_to_retire(t: &mut Ids, seq: u64, on: bool) -
     ensures { λ r. ⌜ R.Done (record { ids = now (t .exit); answer = r }) ≡ R.result (now (t .entry)) (R.MarkDcidToRetire seq on) ⌝ }
 {
     let a = ids::mark_dcid_to_retire_at(*t, seq, on);
-    t.retire = a.queue;
+    t.dcids_to_retire = a.queue;
     a.answer
 }
 

@@ -113,10 +113,10 @@ pub extern "C" fn vig_paths_state(t: &Paths, id: u64) -> Counted
 
 // The source sequence that the path uses, or none: then it is 0.
 #[no_mangle]
-pub extern "C" fn vig_paths_set_scid_seq(t: &mut Paths, id: u64, has: bool, seq: u64) -> Done
-    ensures { λ r. ⌜ R.Done (record { paths = now (t .exit); answer = r }) ≡ R.result (now (t .entry)) (R.SetScidSeq id has seq) ⌝ }
+pub extern "C" fn vig_paths_set_scid_seq(t: &mut Paths, id: u64, has_seq: bool, seq: u64) -> Done
+    ensures { λ r. ⌜ R.Done (record { paths = now (t .exit); answer = r }) ≡ R.result (now (t .entry)) (R.SetScidSeq id «has_seq» seq) ⌝ }
 {
-    let a = paths::set_scid_seq_at(*t, id, has, seq);
+    let a = paths::set_scid_seq_at(*t, id, has_seq, seq);
     let i = a.place;
     let y = a.path;
     t.items[i] = y;
@@ -125,10 +125,10 @@ pub extern "C" fn vig_paths_set_scid_seq(t: &mut Paths, id: u64, has: bool, seq:
 
 // The destination sequence that the path uses, or none: then it is 0.
 #[no_mangle]
-pub extern "C" fn vig_paths_set_dcid_seq(t: &mut Paths, id: u64, has: bool, seq: u64) -> Done
-    ensures { λ r. ⌜ R.Done (record { paths = now (t .exit); answer = r }) ≡ R.result (now (t .entry)) (R.SetDcidSeq id has seq) ⌝ }
+pub extern "C" fn vig_paths_set_dcid_seq(t: &mut Paths, id: u64, has_seq: bool, seq: u64) -> Done
+    ensures { λ r. ⌜ R.Done (record { paths = now (t .exit); answer = r }) ≡ R.result (now (t .entry)) (R.SetDcidSeq id «has_seq» seq) ⌝ }
 {
-    let a = paths::set_dcid_seq_at(*t, id, has, seq);
+    let a = paths::set_dcid_seq_at(*t, id, has_seq, seq);
     let i = a.place;
     let y = a.path;
     t.items[i] = y;
@@ -306,10 +306,10 @@ pub extern "C" fn vig_paths_cmp_anti_ampl_limit(t: &Paths, id: u64, wish: u64) -
 
 // A ping is asked for; an absent pair is zero.
 #[no_mangle]
-pub extern "C" fn vig_paths_mark_ping(t: &mut Paths, has: bool, pair: FourTuple) -> Done
-    ensures { λ r. ⌜ R.Done (record { paths = now (t .exit); answer = r }) ≡ R.result (now (t .entry)) (R.MarkPing has pair) ⌝ }
+pub extern "C" fn vig_paths_mark_ping(t: &mut Paths, has_pair: bool, pair: FourTuple) -> Done
+    ensures { λ r. ⌜ R.Done (record { paths = now (t .exit); answer = r }) ≡ R.result (now (t .entry)) (R.MarkPing «has_pair» pair) ⌝ }
 {
-    let a = paths::mark_ping(*t, has, pair);
+    let a = paths::mark_ping(*t, has_pair, pair);
     *t = a.paths;
     a.answer
 }

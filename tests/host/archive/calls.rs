@@ -51,9 +51,9 @@ impl States {
     fn written(&mut self, call: &Call, record: &Record) -> Outcome {
         let [n0, n1, ..] = record.n;
         match call.name {
-            "write_next" => self.ids.next = n0,
-            "write_own_rpt" => self.ids.rpt = n0,
-            "write_peer_rpt" => self.ids.largest = n0,
+            "write_next" => self.ids.next_scid_seq = n0,
+            "write_own_rpt" => self.ids.retire_prior_to = n0,
+            "write_peer_rpt" => self.ids.largest_peer_retire_prior_to = n0,
             name => {
                 let paths = &mut self.paths.items[..self.paths.count];
                 if let Some(path) = usize::try_from(n0).ok().and_then(|id| paths.get_mut(id)) {

@@ -95,7 +95,7 @@ fn items(table: &Table) -> &[Item] {
 
 /// Of both tables.
 fn all_items(s: &Ids) -> impl Iterator<Item = &Item> {
-    items(&s.source).iter().chain(items(&s.destination))
+    items(&s.scids).iter().chain(items(&s.dcids))
 }
 
 fn no_item(i: &Item) -> bool {
@@ -118,25 +118,25 @@ fn capacity(limit: u64) -> i128 {
 
 pub const IDS: [Conjunct<Ids>; 16] = [
     // The destination capacity isn't stored: it is what the limit says.
-    (1, |s| destination_limit(s.dlimit)),
-    (2, |s| (2..=16).contains(&s.slimit)),
-    (3, |s| s.capacity % 2 == 1 && s.capacity as i128 >= capacity(s.slimit) && s.capacity <= 31),
-    (4, |s| 1 <= s.source.count && s.source.count <= s.capacity),
+    (1, |s| destination_limit(s.dcid_limit)),
+    (2, |s| (2..=16).contains(&s.scid_limit)),
+    (3, |s| s.scid_capacity % 2 == 1 && s.scid_capacity as i128 >= capacity(s.scid_limit) && s.scid_capacity <= 31),
+    (4, |s| 1 <= s.scids.count && s.scids.count <= s.scid_capacity),
     (5, |s| {
-        let sequences: Vec<u64> = items(&s.source).iter().map(|item| item.seq).collect();
-        sequences.windows(2).all(|two| two[0] < two[1]) && sequences.last().is_none_or(|&last| last < s.next)
+        let sequences: Vec<u64> = items(&s.scids).iter().map(|item| item.seq).collect();
+        sequences.windows(2).all(|two| two[0] < two[1]) && sequences.last().is_none_or(|&last| last < s.next_scid_seq)
     }),
-    (6, |s| s.destination.count as i128 <= capacity(s.dlimit)),
-    (7, |s| no_two(items(&s.destination), |a, b| a.seq == b.seq)),
-    (8, |s| no_two(items(&s.destination), |a, b| a.cid.len == b.cid.len && a.cid.bytes == b.cid.bytes)),
+    (6, |s| s.dcids.count as i128 <= capacity(s.dcid_limit)),
+    (7, |s| no_two(items(&s.dcids), |a, b| a.seq == b.seq)),
+    (8, |s| no_two(items(&s.dcids), |a, b| a.cid.len == b.cid.len && a.cid.bytes == b.cid.bytes)),
     (9, |s| all_items(s).all(|item| item.seq == 0 || item.token.present)),
-    (10, |s| (1..=MAX_SEQUENCE).contains(&s.next)),
-    (11, |s| s.rpt <= s.next),
-    (12, |s| s.advertise.count <= 128 && s.retire.count <= 128),
+    (10, |s| (1..=MAX_SEQUENCE).contains(&s.next_scid_seq)),
+    (11, |s| s.retire_prior_to <= s.next_scid_seq),
+    (12, |s| s.scids_to_advertise.count <= 128 && s.dcids_to_retire.count <= 128),
     (13, |s| all_items(s).all(|item| connection_id(&item.cid))),
     (14, |s| all_items(s).all(|item| token(&item.token) && optional(item.has_path, item.path))),
-    (15, |s| empty_past_count(&s.source) && empty_past_count(&s.destination)),
-    (16, |s| zero_past_count(&s.advertise) && zero_past_count(&s.retire)),
+    (15, |s| empty_past_count(&s.scids) && empty_past_count(&s.dcids)),
+    (16, |s| zero_past_count(&s.scids_to_advertise) && zero_past_count(&s.dcids_to_retire)),
 ];
 
 // ---- Paths ----

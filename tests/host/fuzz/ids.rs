@@ -47,26 +47,26 @@ impl State for Ids {
     }
 
     fn hints(&self, random: &mut Random) -> Hints {
-        let table = random.pick(&[&self.source, &self.destination]);
+        let table = random.pick(&[&self.scids, &self.dcids]);
         let item = random.pick(&table.items[..table.count.clamp(1, 31)]);
-        let queued = random.pick(&[self.advertise.items[0], self.retire.items[0]]);
-        let number = random.pick(&[item.seq, item.seq, item.seq, self.next, self.rpt, self.largest, queued]);
+        let queued = random.pick(&[self.scids_to_advertise.items[0], self.dcids_to_retire.items[0]]);
+        let number = random.pick(&[item.seq, item.seq, item.seq, self.next_scid_seq, self.retire_prior_to, self.largest_peer_retire_prior_to, queued]);
         Hints { number, cid: item.cid, ..NO_HINTS }
     }
 
     fn damage(&mut self, random: &mut Random) {
         match random.below(12) {
-            0 => self.dlimit = random.number(),
-            1 => self.slimit = random.number(),
-            2 => self.capacity = random.number() as usize,
-            3 => self.next = random.number(),
-            4 => self.rpt = self.next.wrapping_add(random.below(3) as u64),
-            5 => self.largest = random.number(),
-            6 => damage_queue(&mut self.advertise, random),
-            7 => damage_queue(&mut self.retire, random),
-            8 => (self.zero_source, self.zero_destination) = (random.flag(), random.flag()),
-            _ if random.flag() => damage_table(&mut self.source, random),
-            _ => damage_table(&mut self.destination, random),
+            0 => self.dcid_limit = random.number(),
+            1 => self.scid_limit = random.number(),
+            2 => self.scid_capacity = random.number() as usize,
+            3 => self.next_scid_seq = random.number(),
+            4 => self.retire_prior_to = self.next_scid_seq.wrapping_add(random.below(3) as u64),
+            5 => self.largest_peer_retire_prior_to = random.number(),
+            6 => damage_queue(&mut self.scids_to_advertise, random),
+            7 => damage_queue(&mut self.dcids_to_retire, random),
+            8 => (self.zero_length_scid, self.zero_length_dcid) = (random.flag(), random.flag()),
+            _ if random.flag() => damage_table(&mut self.scids, random),
+            _ => damage_table(&mut self.dcids, random),
         }
     }
 }

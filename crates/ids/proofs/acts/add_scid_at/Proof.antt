@@ -24,7 +24,7 @@ token-formed-requires c κs = search needs
 add-scid-step-requires : tie.Need-add-scid-step-requires
 add-scid-step-requires c κs =
     let a = c .before .before .before .before .args in
-    ids-each (a .s) (a .cid) (a .token) (a .has) (a .path) (ids-test (a .s) _ (c .before .before .before .formed .ensures) (a .cid) (a .token) (a .has) (a .path) _ _ (c .before .before .cid-formed .ensures) (c .before .token-formed .ensures) true (c .if1 .taken))
+    ids-each (a .s) (a .cid) (a .token) (a .has-path) (a .path) (ids-test (a .s) _ (c .before .before .before .formed .ensures) (a .cid) (a .token) (a .has-path) (a .path) _ _ (c .before .before .cid-formed .ensures) (c .before .token-formed .ensures) true (c .if1 .taken))
 
 none-issued-requires : tie.Need-none-issued-requires
 none-issued-requires c κs = search needs
@@ -32,12 +32,12 @@ none-issued-requires c κs = search needs
 returns : tie.Need-returns
 returns c =
     let a = c .before .before .before .before .before .args in
-    issued-leaves (a .s) _ _ (c .add-scid-step .ensures ∙ chosen (a .s) (idFormed (a .cid) && tokenFormed (a .token) && pathFormed (a .has) (a .path)) (issuedOf (step (view (a .s)) (AddScid (a .cid) (tokenView (a .token)) (a .advertise) (given (a .has) (a .path)) (a .leave)))) (issuedAt 1 0 (a .s)) true (ids-test (a .s) _ (c .before .before .before .before .formed .ensures) (a .cid) (a .token) (a .has) (a .path) _ _ (c .before .before .before .cid-formed .ensures) (c .before .before .token-formed .ensures) true (c .before .if1 .taken)))
+    issued-leaves (a .s) _ _ (c .add-scid-step .ensures ∙ chosen (a .s) (idFormed (a .cid) && tokenFormed (a .token) && pathFormed (a .has-path) (a .path)) (issuedOf (step (view (a .s)) (AddScid (a .cid) (tokenView (a .token)) (a .advertise) (given (a .has-path) (a .path)) (a .retire-if-needed)))) (issuedAt 1 0 (a .s)) true (ids-test (a .s) _ (c .before .before .before .before .formed .ensures) (a .cid) (a .token) (a .has-path) (a .path) _ _ (c .before .before .before .cid-formed .ensures) (c .before .before .token-formed .ensures) true (c .before .if1 .taken)))
 
 returns-2 : tie.Need-returns-2
 returns-2 c =
     let a = c .before .before .before .before .before .args in
-    issued-leaves (a .s) _ _ (c .none-issued .ensures ∙ chosen (a .s) (idFormed (a .cid) && tokenFormed (a .token) && pathFormed (a .has) (a .path)) (issuedOf (step (view (a .s)) (AddScid (a .cid) (tokenView (a .token)) (a .advertise) (given (a .has) (a .path)) (a .leave)))) (issuedAt 1 0 (a .s)) false (ids-test (a .s) _ (c .before .before .before .before .formed .ensures) (a .cid) (a .token) (a .has) (a .path) _ _ (c .before .before .before .cid-formed .ensures) (c .before .before .token-formed .ensures) false (c .before .if1 .left)))
+    issued-leaves (a .s) _ _ (c .none-issued .ensures ∙ chosen (a .s) (idFormed (a .cid) && tokenFormed (a .token) && pathFormed (a .has-path) (a .path)) (issuedOf (step (view (a .s)) (AddScid (a .cid) (tokenView (a .token)) (a .advertise) (given (a .has-path) (a .path)) (a .retire-if-needed)))) (issuedAt 1 0 (a .s)) false (ids-test (a .s) _ (c .before .before .before .before .formed .ensures) (a .cid) (a .token) (a .has-path) (a .path) _ _ (c .before .before .before .cid-formed .ensures) (c .before .before .token-formed .ensures) false (c .before .if1 .left)))
 
 pub add-scid-at-spec : {M : Type 1} → statement M
 add-scid-at-spec = tie.close (tie.spec formed-requires cid-formed-requires token-formed-requires add-scid-step-requires none-issued-requires returns returns-2)

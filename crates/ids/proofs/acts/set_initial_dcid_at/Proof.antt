@@ -30,16 +30,16 @@ returns : tie.Need-returns
 returns c =
     let o = c .before in
     let a = o .before .before .before .before .before .args in
-    let t = ids-test (a .s) _ (o .before .before .before .before .formed .ensures) (a .cid) (a .token) (a .has) (a .path) _ _ (o .before .before .before .cid-formed .ensures) (o .before .before .token-formed .ensures) true (o .before .if1 .taken) in
-    let w = ids-each (a .s) (a .cid) (a .token) (a .has) (a .path) t in
-    let x : I.Item = record { seq = 0; path = a .path; cid = a .cid; token = a .token; «has_path» = a .has } in
-    done-leaves _ _ _ (initial-0 (a .s) (w .0) (a .cid) (a .token) (a .has) (a .path) _ (one-item x _ (w .1) (w .2) (o .only .ensures)) ∙ chosen (a .s) (idFormed (a .cid) && tokenFormed (a .token) && pathFormed (a .has) (a .path)) (doneOf (step (view (a .s)) (SetInitialDcid (a .cid) (tokenView (a .token)) (given (a .has) (a .path))))) (doneAt 1 (a .s)) true t)
+    let t = ids-test (a .s) _ (o .before .before .before .before .formed .ensures) (a .cid) (a .token) (a .has-path) (a .path) _ _ (o .before .before .before .cid-formed .ensures) (o .before .before .token-formed .ensures) true (o .before .if1 .taken) in
+    let w = ids-each (a .s) (a .cid) (a .token) (a .has-path) (a .path) t in
+    let x : I.Item = record { seq = 0; path = a .path; cid = a .cid; token = a .token; «has_path» = a .has-path } in
+    done-leaves _ _ _ (initial-0 (a .s) (w .0) (a .cid) (a .token) (a .has-path) (a .path) _ (one-item x _ (w .1) (w .2) (o .only .ensures)) ∙ chosen (a .s) (idFormed (a .cid) && tokenFormed (a .token) && pathFormed (a .has-path) (a .path)) (doneOf (step (view (a .s)) (SetInitialDcid (a .cid) (tokenView (a .token)) (given (a .has-path) (a .path))))) (doneAt 1 (a .s)) true t)
 
 returns-2 : tie.Need-returns-2
 returns-2 c =
     let a = c .before .before .before .before .before .args in
-    let t = ids-test (a .s) _ (c .before .before .before .before .formed .ensures) (a .cid) (a .token) (a .has) (a .path) _ _ (c .before .before .before .cid-formed .ensures) (c .before .before .token-formed .ensures) false (c .before .if1 .left) in
-    done-leaves _ _ _ (chosen (a .s) (idFormed (a .cid) && tokenFormed (a .token) && pathFormed (a .has) (a .path)) (doneOf (step (view (a .s)) (SetInitialDcid (a .cid) (tokenView (a .token)) (given (a .has) (a .path))))) (doneAt 1 (a .s)) false t)
+    let t = ids-test (a .s) _ (c .before .before .before .before .formed .ensures) (a .cid) (a .token) (a .has-path) (a .path) _ _ (c .before .before .before .cid-formed .ensures) (c .before .before .token-formed .ensures) false (c .before .if1 .left) in
+    done-leaves _ _ _ (chosen (a .s) (idFormed (a .cid) && tokenFormed (a .token) && pathFormed (a .has-path) (a .path)) (doneOf (step (view (a .s)) (SetInitialDcid (a .cid) (tokenView (a .token)) (given (a .has-path) (a .path))))) (doneAt 1 (a .s)) false t)
 
 pub set-initial-dcid-at-spec : {M : Type 1} → statement M
 set-initial-dcid-at-spec = tie.close (tie.spec formed-requires cid-formed-requires token-formed-requires only-requires returns returns-2)

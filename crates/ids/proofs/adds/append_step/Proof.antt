@@ -10,10 +10,10 @@ use Rattle.ids.proofs.adds.append_step.Statement.{statement}
 use Rattle.ids.proofs.adds.append_step.Tie as tie
 
 mul-most : tie.Need-mul-most
-mul-most c = let h = c .pre .0 in omega (arith, facts (held h) (h .well) .bounds .dlimit-most)
+mul-most c = let h = c .pre .0 in omega (arith, facts (held h) (h .well) .bounds .dcid-limit-most)
 
 sub-most : tie.Need-sub-most
-sub-most c = let h = c .pre .0 in omega (arith, facts (held h) (h .well) .bounds .dlimit-least)
+sub-most c = let h = c .pre .0 in omega (arith, facts (held h) (h .well) .bounds .dcid-limit-least)
 
 no-pairs-requires : tie.Need-no-pairs-requires
 no-pairs-requires c κs = search needs
@@ -22,7 +22,7 @@ returns : tie.Need-returns
 returns c = λ h. append-3 (held h) (h .well) (c .before .before .args .x) (c .before .if1 .taken) _ (ap (retiredIn (held h)) (c .no-pairs .ensures))
 
 append-requires : tie.Need-append-requires
-append-requires c κs = let h = c .before .pre .0 in (destination-well (held h) (h .well), omega (arith, c .if1 .left, facts (held h) (h .well) .bounds .dlimit-most))
+append-requires c κs = let h = c .before .pre .0 in (destination-well (held h) (h .well), omega (arith, c .if1 .left, facts (held h) (h .well) .bounds .dcid-limit-most))
 
 no-pairs-requires-2 : tie.Need-no-pairs-requires-2
 no-pairs-requires-2 c κs = search needs

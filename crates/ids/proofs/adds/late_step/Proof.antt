@@ -19,7 +19,7 @@ queue-push-requires : tie.Need-queue-push-requires
 queue-push-requires c κs = let h = c .before .before .pre in (retire-well (held h) (h .well), c .if1 .left)
 
 mul-most : tie.Need-mul-most
-mul-most c = let h = c .before .before .before .pre in omega (arith, facts (held h) (h .well) .bounds .dlimit-most)
+mul-most c = let h = c .before .before .before .pre in omega (arith, facts (held h) (h .well) .bounds .dcid-limit-most)
 
 no-pairs-requires-2 : tie.Need-no-pairs-requires-2
 no-pairs-requires-2 c κs = search needs

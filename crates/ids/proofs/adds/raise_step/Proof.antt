@@ -37,7 +37,7 @@ add-total c =
     let ck = ap (λ (z : Table). z .count) ek in
     let sp = split (held h) (h .well) (a .x) (s .pre .1) (a .b) in
     let bd = facts (held h) (h .well) .bounds in
-    omega (arith, ck, sp, bd .retired-few, bd .destinations-few, bd .dlimit-most)
+    omega (arith, ck, sp, bd .retired-few, bd .destinations-few, bd .dcid-limit-most)
 
 no-pairs-requires : tie.Need-no-pairs-requires
 no-pairs-requires c κs = search needs
@@ -63,7 +63,7 @@ queue-lower-requires c κs =
     (destination-well (held h) (h .well), retire-well (held h) (h .well), omega (arith, c .if1 .left, ck, sp))
 
 mul-most : tie.Need-mul-most
-mul-most c = let h = c .before .before .before .before .before .before .pre .0 in omega (arith, facts (held h) (h .well) .bounds .dlimit-most)
+mul-most c = let h = c .before .before .before .before .before .before .pre .0 in omega (arith, facts (held h) (h .well) .bounds .dcid-limit-most)
 
 no-pairs-requires-2 : tie.Need-no-pairs-requires-2
 no-pairs-requires-2 c κs = search needs
@@ -79,10 +79,10 @@ returns-2 c =
     raise-4 (held h) (h .well) (a .x) (s .pre .1) (a .b) (omega (arith, c .before .before .before .if1 .left, ck, sp)) _ ek _ (c .before .before .queue-lower .ensures) _ (c .before .if2 .taken) (ap (retiredIn (held h)) (c .no-pairs2 .ensures))
 
 mul-room : tie.Need-mul-room
-mul-room c = let h = c .before .before .before .before .before .before .before .pre .0 in omega (arith, facts (held h) (h .well) .bounds .dlimit-most)
+mul-room c = let h = c .before .before .before .before .before .before .before .pre .0 in omega (arith, facts (held h) (h .well) .bounds .dcid-limit-most)
 
 sub-room : tie.Need-sub-room
-sub-room c = let h = c .before .before .before .before .before .before .before .pre .0 in omega (arith, facts (held h) (h .well) .bounds .dlimit-least)
+sub-room c = let h = c .before .before .before .before .before .before .before .pre .0 in omega (arith, facts (held h) (h .well) .bounds .dcid-limit-least)
 
 no-pairs-requires-3 : tie.Need-no-pairs-requires-3
 no-pairs-requires-3 c κs = search needs
@@ -108,7 +108,7 @@ append-requires c κs =
     let ek = c .before .before .before .before .before .before .before .before .keep-from .ensures in
     let ck = ap (λ (z : Table). z .count) ek in
     let bd = facts (held h) (h .well) .bounds in
-    room-at (keep (T.atLeast (a .b)) (live (a .t))) _ ek (omega (arith, c .before .if3 .left, ck, bd .dlimit-most))
+    room-at (keep (T.atLeast (a .b)) (live (a .t))) _ ek (omega (arith, c .before .if3 .left, ck, bd .dcid-limit-most))
 
 returns-4 : tie.Need-returns-4
 returns-4 c =
@@ -119,7 +119,7 @@ returns-4 c =
     λ h.
     let sp = split (held h) (h .well) (a .x) (s .pre .1) (a .b) in
     raise-0 (held h) (h .well) (a .x) (s .pre .1) (a .b) (omega (arith, c .before .before .before .before .before .if1 .left, ck, sp)) _ ek _ (c .before .before .before .before .queue-lower .ensures) _ (c .before .before .before .if2 .left) (c .before .before .if3 .left) _ (c .append .ensures)
-    (ap (λ (u : Used). retiredIn (held h) (record { destination = c .append .result; retire = c .before .before .before .before .queue-lower .result; largest = a .b; answer = record { refusal = 0; used = u } })) (c .before .used-lower .ensures))
+    (ap (λ (u : Used). retiredIn (held h) (record { dcids = c .append .result; «dcids_to_retire» = c .before .before .before .before .queue-lower .result; «largest_peer_retire_prior_to» = a .b; answer = record { refusal = 0; used = u } })) (c .before .used-lower .ensures))
 
 pub raise-step-spec : {M : Type 1} → statement M
 raise-step-spec = tie.close (tie.spec keep-from-requires sub-lower add-total no-pairs-requires returns queue-lower-requires mul-most no-pairs-requires-2 returns-2 mul-room sub-room no-pairs-requires-3 returns-3 used-lower-requires append-requires returns-4)

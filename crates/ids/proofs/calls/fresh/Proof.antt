@@ -20,7 +20,7 @@ token-formed-requires c κs = search needs
 first-state-requires : tie.Need-first-state-requires
 first-state-requires c κs =
     let a = c .before .before .before .args in
-    and-both (tokenFormed (a .token)) (freshFormed (a .dlimit) (a .cid)) (ap₂ (λ (k c : Bool). k && (leb 1 (a .dlimit) && leb (a .dlimit) maxDcidLimit && c)) (sym (c .before .token-formed .ensures)) (sym (c .before .before .cid-formed .ensures)) ∙ c .if1 .taken) .0
+    and-both (tokenFormed (a .token)) (freshFormed (a .dcid-limit) (a .cid)) (ap₂ (λ (k c : Bool). k && (leb 1 (a .dcid-limit) && leb (a .dcid-limit) maxDcidLimit && c)) (sym (c .before .token-formed .ensures)) (sym (c .before .before .cid-formed .ensures)) ∙ c .if1 .taken) .0
 
 done-requires : tie.Need-done-requires
 done-requires c κs = search needs
@@ -28,7 +28,7 @@ done-requires c κs = search needs
 returns : tie.Need-returns
 returns c =
     let a = c .before .before .before .before .before .args in
-    c .done .ensures ∙ fresh-0 (a .dlimit) (a .cid) (a .path) (a .token) (ap₂ (λ (k c : Bool). k && (leb 1 (a .dlimit) && leb (a .dlimit) maxDcidLimit && c)) (sym (c .before .before .before .token-formed .ensures)) (sym (c .before .before .before .before .cid-formed .ensures)) ∙ c .before .before .if1 .taken) _ (c .before .first-state .ensures)
+    c .done .ensures ∙ fresh-0 (a .dcid-limit) (a .cid) (a .path) (a .token) (ap₂ (λ (k c : Bool). k && (leb 1 (a .dcid-limit) && leb (a .dcid-limit) maxDcidLimit && c)) (sym (c .before .before .before .token-formed .ensures)) (sym (c .before .before .before .before .cid-formed .ensures)) ∙ c .before .before .if1 .taken) _ (c .before .first-state .ensures)
 
 zero-state-requires : tie.Need-zero-state-requires
 zero-state-requires c κs = search needs
@@ -39,7 +39,7 @@ done-requires-2 c κs = search needs
 returns-2 : tie.Need-returns-2
 returns-2 c =
     let a = c .before .before .before .before .before .args in
-    c .done2 .ensures ∙ fresh-1 (a .dlimit) (a .cid) (a .path) (a .token) (ap₂ (λ (k c : Bool). k && (leb 1 (a .dlimit) && leb (a .dlimit) maxDcidLimit && c)) (sym (c .before .before .before .token-formed .ensures)) (sym (c .before .before .before .before .cid-formed .ensures)) ∙ c .before .before .if1 .left) _ (c .before .zero-state .ensures)
+    c .done2 .ensures ∙ fresh-1 (a .dcid-limit) (a .cid) (a .path) (a .token) (ap₂ (λ (k c : Bool). k && (leb 1 (a .dcid-limit) && leb (a .dcid-limit) maxDcidLimit && c)) (sym (c .before .before .before .token-formed .ensures)) (sym (c .before .before .before .before .cid-formed .ensures)) ∙ c .before .before .if1 .left) _ (c .before .zero-state .ensures)
 
 pub fresh-spec : {M : Type 1} → statement M
 fresh-spec = tie.close (tie.spec cid-formed-requires token-formed-requires first-state-requires done-requires returns zero-state-requires done-requires-2 returns-2)

@@ -22,7 +22,7 @@ returns : tie.Need-returns
 returns c =
     let s = c .before .before in
     let a = s .args in
-    keeps-issued (a .s) (s .pre .0) 2 (adds (a .s) (s .pre .0) (a .cid) (a .token) (a .advertise) (a .has) (a .path) (a .leave)) (add-is (a .s) (s .pre .0) (a .cid) (a .token) (a .advertise) (a .has) (a .path) (a .leave) true _ _ _ _ (c .before .if1 .taken) refl refl refl refl) _ (c .none-issued .ensures)
+    keeps-issued (a .s) (s .pre .0) 2 (adds (a .s) (s .pre .0) (a .cid) (a .token) (a .advertise) (a .has-path) (a .path) (a .retire-if-needed)) (add-is (a .s) (s .pre .0) (a .cid) (a .token) (a .advertise) (a .has-path) (a .path) (a .retire-if-needed) true _ _ _ _ (c .before .if1 .taken) refl refl refl refl) _ (c .none-issued .ensures)
 
 none-issued-requires-2 : tie.Need-none-issued-requires-2
 none-issued-requires-2 c κs = search needs
@@ -31,7 +31,7 @@ returns-2 : tie.Need-returns-2
 returns-2 c =
     let s = c .before .before .before .before in
     let a = s .args in
-    keeps-issued (a .s) (s .pre .0) 7 (adds (a .s) (s .pre .0) (a .cid) (a .token) (a .advertise) (a .has) (a .path) (a .leave)) (add-is (a .s) (s .pre .0) (a .cid) (a .token) (a .advertise) (a .has) (a .path) (a .leave) false true _ _ _ (c .before .before .before .if1 .left) (le-leb _ _ (c .before .if2 .taken)) refl refl refl) _ (c .none-issued2 .ensures)
+    keeps-issued (a .s) (s .pre .0) 7 (adds (a .s) (s .pre .0) (a .cid) (a .token) (a .advertise) (a .has-path) (a .path) (a .retire-if-needed)) (add-is (a .s) (s .pre .0) (a .cid) (a .token) (a .advertise) (a .has-path) (a .path) (a .retire-if-needed) false true _ _ _ (c .before .before .before .if1 .left) (le-leb _ _ (c .before .if2 .taken)) refl refl refl) _ (c .none-issued2 .ensures)
 
 issue-step-requires : tie.Need-issue-step-requires
 issue-step-requires c κs = let s = c .before .before .before .before .before .before in (s .pre .0, refl, s .pre .1, s .pre .2)
@@ -40,7 +40,7 @@ returns-3 : tie.Need-returns-3
 returns-3 c =
     let s = c .before .before .before .before .before .before .before in
     let a = s .args in
-    c .issue-step .ensures ∙ sym (ap issuedOf (add-is (a .s) (s .pre .0) (a .cid) (a .token) (a .advertise) (a .has) (a .path) (a .leave) false false true _ _ (c .before .before .before .before .before .before .if1 .left) (lt-leb _ _ (c .before .before .before .before .if2 .left)) (lt-ltb _ _ (c .before .if3 .taken)) refl refl))
+    c .issue-step .ensures ∙ sym (ap issuedOf (add-is (a .s) (s .pre .0) (a .cid) (a .token) (a .advertise) (a .has-path) (a .path) (a .retire-if-needed) false false true _ _ (c .before .before .before .before .before .before .if1 .left) (lt-leb _ _ (c .before .before .before .before .if2 .left)) (lt-ltb _ _ (c .before .if3 .taken)) refl refl))
 
 none-issued-requires-3 : tie.Need-none-issued-requires-3
 none-issued-requires-3 c κs = search needs
@@ -49,7 +49,7 @@ returns-4 : tie.Need-returns-4
 returns-4 c =
     let s = c .before .before .before .before .before .before .before .before in
     let a = s .args in
-    keeps-issued (a .s) (s .pre .0) 3 (adds (a .s) (s .pre .0) (a .cid) (a .token) (a .advertise) (a .has) (a .path) (a .leave)) (add-is (a .s) (s .pre .0) (a .cid) (a .token) (a .advertise) (a .has) (a .path) (a .leave) false false false true _ (c .before .before .before .before .before .before .before .if1 .left) (lt-leb _ _ (c .before .before .before .before .before .if2 .left)) (le-ltb _ _ (c .before .before .if3 .left)) (c .before .if4 .taken) refl) _ (c .none-issued3 .ensures)
+    keeps-issued (a .s) (s .pre .0) 3 (adds (a .s) (s .pre .0) (a .cid) (a .token) (a .advertise) (a .has-path) (a .path) (a .retire-if-needed)) (add-is (a .s) (s .pre .0) (a .cid) (a .token) (a .advertise) (a .has-path) (a .path) (a .retire-if-needed) false false false true _ (c .before .before .before .before .before .before .before .if1 .left) (lt-leb _ _ (c .before .before .before .before .before .if2 .left)) (le-ltb _ _ (c .before .before .if3 .left)) (c .before .if4 .taken) refl) _ (c .none-issued3 .ensures)
 
 lowest-from-requires : tie.Need-lowest-from-requires
 lowest-from-requires c κs = let s = c .before .before .before .before .before .before .before in source-well (s .args .s) (s .pre .0)
@@ -62,7 +62,7 @@ add-issue-step c =
     let s = c .before .before .before .before .before .before .before .before .before .before .before in
     let a = s .args in
     let f = facts (a .s) (s .pre .0) in
-    let h = lowest-below (T.atLeast (a .s .rpt)) (a .s .next) _ (live (a .s .source)) (f .rises) (lowest-at _ _ (sym (c .before .before .before .lowest-from .ensures) ∙ c .before .low .given .1)) in
+    let h = lowest-below (T.atLeast (a .s .«retire_prior_to»)) (a .s .«next_scid_seq») _ (live (a .s .scids)) (f .rises) (lowest-at _ _ (sym (c .before .before .before .lowest-from .ensures) ∙ c .before .low .given .1)) in
     omega (arith, f .bounds .next-most)
 
 issue-step-requires-2 : tie.Need-issue-step-requires-2
@@ -79,14 +79,14 @@ returns-5 c =
     let s = c .before .before .before .before .before .before .before .before .before .before .before .before in
     let a = s .args in
     let o = lowest-at _ _ (sym (c .before .before .before .before .lowest-from .ensures) ∙ c .before .before .low .given .1) in
-    c .issue-step2 .ensures ∙ sym (ap issuedOf (add-is (a .s) (s .pre .0) (a .cid) (a .token) (a .advertise) (a .has) (a .path) (a .leave) false false false false _ (c .before .before .before .before .before .before .before .before .before .before .before .if1 .left) (lt-leb _ _ (c .before .before .before .before .before .before .before .before .before .if2 .left)) (le-ltb _ _ (c .before .before .before .before .before .before .if3 .left)) (c .before .before .before .before .before .if4 .left) o))
+    c .issue-step2 .ensures ∙ sym (ap issuedOf (add-is (a .s) (s .pre .0) (a .cid) (a .token) (a .advertise) (a .has-path) (a .path) (a .retire-if-needed) false false false false _ (c .before .before .before .before .before .before .before .before .before .before .before .if1 .left) (lt-leb _ _ (c .before .before .before .before .before .before .before .before .before .if2 .left)) (le-ltb _ _ (c .before .before .before .before .before .before .if3 .left)) (c .before .before .before .before .before .if4 .left) o))
 
 returns-6 : tie.Need-returns-6
 returns-6 c =
     let s = c .before .before .before .before .before .before .before .before .before .before .before in
     let a = s .args in
     let o = lowest-none _ (sym (c .before .before .before .lowest-from .ensures) ∙ c .before .enum-told .given .1) in
-    keeps-issued (a .s) (s .pre .0) 2 (adds (a .s) (s .pre .0) (a .cid) (a .token) (a .advertise) (a .has) (a .path) (a .leave)) (add-is (a .s) (s .pre .0) (a .cid) (a .token) (a .advertise) (a .has) (a .path) (a .leave) false false false false none (c .before .before .before .before .before .before .before .before .before .before .if1 .left) (lt-leb _ _ (c .before .before .before .before .before .before .before .before .if2 .left)) (le-ltb _ _ (c .before .before .before .before .before .if3 .left)) (c .before .before .before .before .if4 .left) o) _ (c .none-issued4 .ensures)
+    keeps-issued (a .s) (s .pre .0) 2 (adds (a .s) (s .pre .0) (a .cid) (a .token) (a .advertise) (a .has-path) (a .path) (a .retire-if-needed)) (add-is (a .s) (s .pre .0) (a .cid) (a .token) (a .advertise) (a .has-path) (a .path) (a .retire-if-needed) false false false false none (c .before .before .before .before .before .before .before .before .before .before .if1 .left) (lt-leb _ _ (c .before .before .before .before .before .before .before .before .if2 .left)) (le-ltb _ _ (c .before .before .before .before .before .if3 .left)) (c .before .before .before .before .if4 .left) o) _ (c .none-issued4 .ensures)
 
 pub add-scid-step-spec : {M : Type 1} → statement M
 add-scid-step-spec = tie.close (tie.spec none-issued-requires returns none-issued-requires-2 returns-2 issue-step-requires returns-3 none-issued-requires-3 returns-4 lowest-from-requires enum-known-low add-issue-step issue-step-requires-2 enum-told none-issued-requires-4 returns-5 returns-6)

@@ -31,7 +31,7 @@ returns-2 : tie.Need-returns-2
 returns-2 c =
     let s = c .before .before .before .before .before .before .before in
     let a = s .args in
-    ap (freedIn (a .s)) (c .none-freed2 .ensures) ∙ ap (freedAt 0 none) (sym (view-is (a .s) (s .pre))) ∙ sym (ap freedOf (scid-retire-none (a .s) (s .pre) (a .seq) (a .packet) (c .before .before .before .before .if1 .left) (sought-none (a .s .source) (T.hasSeq (a .seq)) _ (c .before .before .before .seek-seq .ensures) (not-true _ (c .before .if2 .taken)))))
+    ap (freedIn (a .s)) (c .none-freed2 .ensures) ∙ ap (freedAt 0 none) (sym (view-is (a .s) (s .pre))) ∙ sym (ap freedOf (scid-retire-none (a .s) (s .pre) (a .seq) (a .packet) (c .before .before .before .before .if1 .left) (sought-none (a .s .scids) (T.hasSeq (a .seq)) _ (c .before .before .before .seek-seq .ensures) (not-true _ (c .before .if2 .taken)))))
 
 none-freed-requires-3 : tie.Need-none-freed-requires-3
 none-freed-requires-3 c κs = search needs
@@ -40,7 +40,7 @@ returns-3 : tie.Need-returns-3
 returns-3 c =
     let s = c .before .before .before .before .before .before .before .before .before in
     let a = s .args in
-    let place = sought-at (a .s .source) (T.hasSeq (a .seq)) _ (c .before .before .before .before .before .seek-seq .ensures) (not-false _ (c .before .before .before .if2 .left)) in
+    let place = sought-at (a .s .scids) (T.hasSeq (a .seq)) _ (c .before .before .before .before .before .seek-seq .ensures) (not-false _ (c .before .before .before .if2 .left)) in
     keeps-freed (a .s) (s .pre) 2 (retires (a .s) (s .pre) (a .seq) (a .packet)) (scid-retire-2 (a .s) (s .pre) (a .seq) (a .packet) (c .before .before .before .before .before .before .if1 .left) _ place (c .before .if3 .taken)) _ (ap (freedIn (a .s)) (c .none-freed3 .ensures))
 
 take-step-requires : tie.Need-take-step-requires
@@ -49,13 +49,13 @@ take-step-requires c κs =
     let a = s .args in
     let e = c .before .before .before .before .before .seek-seq .ensures in
     let p = not-false _ (c .before .before .before .if2 .left) in
-    (s .pre, sought-at (a .s .source) (T.hasSeq (a .seq)) _ e p, sought-item (a .s .source) (T.hasSeq (a .seq)) _ e p)
+    (s .pre, sought-at (a .s .scids) (T.hasSeq (a .seq)) _ e p, sought-item (a .s .scids) (T.hasSeq (a .seq)) _ e p)
 
 returns-4 : tie.Need-returns-4
 returns-4 c =
     let s = c .before .before .before .before .before .before .before .before .before .before in
     let a = s .args in
-    let place = sought-at (a .s .source) (T.hasSeq (a .seq)) _ (c .before .before .before .before .before .before .seek-seq .ensures) (not-false _ (c .before .before .before .before .if2 .left)) in
+    let place = sought-at (a .s .scids) (T.hasSeq (a .seq)) _ (c .before .before .before .before .before .before .seek-seq .ensures) (not-false _ (c .before .before .before .before .if2 .left)) in
     c .take-step .ensures ∙ sym (ap freedOf (scid-retire-0 (a .s) (s .pre) (a .seq) (a .packet) (c .before .before .before .before .before .before .before .if1 .left) _ place (c .before .before .if3 .left)))
 
 pub retire-scid-step-spec : {M : Type 1} → statement M

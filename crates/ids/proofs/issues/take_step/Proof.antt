@@ -37,7 +37,7 @@ lowest-from-requires c κs =
     let s = c .before .before .before .before .before in
     let a = s .args in
     let few = rest-few (a .s) (s .pre .0) (a .seq) (a .i) (s .pre .1) (a .packet) in
-    table-at (D.without (a .i) (live (a .s .source))) _ (c .before .before .before .remove-at .ensures) (omega arith)
+    table-at (D.without (a .i) (live (a .s .scids))) _ (c .before .before .before .remove-at .ensures) (omega arith)
 
 enum-known-low : tie.Need-enum-known-low
 enum-known-low c = search needs

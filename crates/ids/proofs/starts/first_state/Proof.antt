@@ -23,7 +23,7 @@ returns c =
     let a = s .args in
     let x : I.Item = record { seq = 0; path = a .path; cid = a .cid; token = a .token; «has_path» = true } in
     let one = one-item x _ (s .pre) refl (c .before .before .before .only .ensures) in
-    λ i. record { source = one i; destination = c .before .before .no-items .ensures i; capacity = 3; dlimit = a .dlimit; slimit = 2; «zero_source» = emptyId (a .cid); «zero_destination» = false; next = 1; rpt = 0; largest = 0; advertise = c .before .no-entries .ensures i; retire = c .before .no-entries .ensures i }
+    λ i. record { scids = one i; dcids = c .before .before .no-items .ensures i; «scid_capacity» = 3; «dcid_limit» = a .dcid-limit; «scid_limit» = 2; «zero_length_scid» = emptyId (a .cid); «zero_length_dcid» = false; «next_scid_seq» = 1; «retire_prior_to» = 0; «largest_peer_retire_prior_to» = 0; «scids_to_advertise» = c .before .no-entries .ensures i; «dcids_to_retire» = c .before .no-entries .ensures i }
 
 pub first-state-spec : {M : Type 1} → statement M
 first-state-spec = tie.close (tie.spec only-requires no-items-requires no-entries-requires returns)

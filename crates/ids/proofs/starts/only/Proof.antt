@@ -19,7 +19,7 @@ append-requires c κs = room-at [] _ (c .no-items .ensures) (omega arith)
 returns : tie.Need-returns
 returns c =
     let a = c .before .before .args in
-    let x : I.Item = record { seq = 0; path = a .path; cid = a .cid; token = a .token; «has_path» = a .has } in
+    let x : I.Item = record { seq = 0; path = a .path; cid = a .cid; token = a .token; «has_path» = a .has-path } in
     c .append .ensures ∙ ap (λ (u : Table). tableOf (live u ++ (x ∷ []))) (c .before .no-items .ensures)
 
 pub only-spec : {M : Type 1} → statement M

@@ -14,7 +14,7 @@ no-entries-requires : tie.Need-no-entries-requires
 no-entries-requires c κs = search needs
 
 returns : tie.Need-returns
-returns c = ap₂ (λ (t : Table) (q : Queue). record { source = t; destination = t; capacity = 0; dlimit = 0; slimit = 0; «zero_source» = false; «zero_destination» = false; next = 0; rpt = 0; largest = 0; advertise = q; retire = q }) (c .before .no-items .ensures) (c .no-entries .ensures)
+returns c = ap₂ (λ (t : Table) (q : Queue). record { scids = t; dcids = t; «scid_capacity» = 0; «dcid_limit» = 0; «scid_limit» = 0; «zero_length_scid» = false; «zero_length_dcid» = false; «next_scid_seq» = 0; «retire_prior_to» = 0; «largest_peer_retire_prior_to» = 0; «scids_to_advertise» = q; «dcids_to_retire» = q }) (c .before .no-items .ensures) (c .no-entries .ensures)
 
 pub zero-state-spec : {M : Type 1} → statement M
 zero-state-spec = tie.close (tie.spec no-items-requires no-entries-requires returns)

@@ -15,7 +15,7 @@ sources-requires : tie.Need-sources-requires
 sources-requires c κs =
     let t = c .before .before .before .before .before .before .args .t in
     let w =
-    bounds-of (t .dlimit) (t .slimit) (t .capacity) (t .source .count) (t .destination .count) (t .next) (t .rpt) (t .advertise .count) (t .retire .count)
+    bounds-of (t .«dcid_limit») (t .«scid_limit») (t .«scid_capacity») (t .scids .count) (t .dcids .count) (t .«next_scid_seq») (t .«retire_prior_to») (t .«scids_to_advertise» .count) (t .«dcids_to_retire» .count)
     (sym (c .before .within .ensures) ∙ c .if1 .taken) in
     (w .sources-some, omega (arith, w .sources-few, w .capacity-most))
 
@@ -23,9 +23,9 @@ destinations-requires : tie.Need-destinations-requires
 destinations-requires c κs =
     let t = c .before .before .before .before .before .before .before .args .t in
     let w =
-    bounds-of (t .dlimit) (t .slimit) (t .capacity) (t .source .count) (t .destination .count) (t .next) (t .rpt) (t .advertise .count) (t .retire .count)
+    bounds-of (t .«dcid_limit») (t .«scid_limit») (t .«scid_capacity») (t .scids .count) (t .dcids .count) (t .«next_scid_seq») (t .«retire_prior_to») (t .«scids_to_advertise» .count) (t .«dcids_to_retire» .count)
     (sym (c .before .before .within .ensures) ∙ c .before .if1 .taken) in
-    omega (arith, w .destinations-few, w .dlimit-most)
+    omega (arith, w .destinations-few, w .dcid-limit-most)
 
 queue-formed-requires : tie.Need-queue-formed-requires
 queue-formed-requires c κs = search needs
@@ -43,7 +43,7 @@ returns c =
 returns-2 : tie.Need-returns-2
 returns-2 c =
     let t = c .before .before .before .before .before .before .args .t in
-    sym (ap (λ (b : Bool). b && (sourcesFormed (t .source) (t .next) && destinationsFormed (t .destination) && queueFormed (t .advertise) && queueFormed (t .retire))) (sym (c .before .within .ensures) ∙ c .if1 .left))
+    sym (ap (λ (b : Bool). b && (sourcesFormed (t .scids) (t .«next_scid_seq») && destinationsFormed (t .dcids) && queueFormed (t .«scids_to_advertise») && queueFormed (t .«dcids_to_retire»))) (sym (c .before .within .ensures) ∙ c .if1 .left))
 
 pub formed-spec : {M : Type 1} → statement M
 formed-spec =

@@ -14,8 +14,8 @@ add-half c = search needs
 returns : tie.Need-returns
 returns c =
     let a = c .args in
-    let half : leb (a .slimit) (a .capacity / 2 + a .capacity % 2) ≡ leb (2 * a .slimit - 1) (a .capacity) = leb-iff (a .slimit) (a .capacity / 2 + a .capacity % 2) (2 * a .slimit - 1) (a .capacity) (λ h. omega arith) (λ h. omega arith) in
-    let pairs : ltb (a .destinations / 2) (a .dlimit) ≡ ltb (a .destinations) (2 * a .dlimit) = leb-iff (suc (a .destinations / 2)) (a .dlimit) (suc (a .destinations)) (2 * a .dlimit) (λ h. omega arith) (λ h. omega arith) in
+    let half : leb (a .scid-limit) (a .capacity / 2 + a .capacity % 2) ≡ leb (2 * a .scid-limit - 1) (a .capacity) = leb-iff (a .scid-limit) (a .capacity / 2 + a .capacity % 2) (2 * a .scid-limit - 1) (a .capacity) (λ h. omega arith) (λ h. omega arith) in
+    let pairs : ltb (a .destinations / 2) (a .dcid-limit) ≡ ltb (a .destinations) (2 * a .dcid-limit) = leb-iff (suc (a .destinations / 2)) (a .dcid-limit) (suc (a .destinations)) (2 * a .dcid-limit) (λ h. omega arith) (λ h. omega arith) in
     rw (half, pairs)
 
 pub within-spec : {M : Type 1} → statement M

@@ -11,7 +11,7 @@ pick-requires : tie.Need-pick-requires
 pick-requires c κs = search needs
 
 returns : tie.Need-returns
-returns c = let s = c .before .before in dcid-is (s .args .x) (s .args .has) (s .args .seq) (s .args .ok) (s .pre) _ _ (c .before .pick-flag .ensures) (c .pick .ensures)
+returns c = let s = c .before .before in dcid-is (s .args .x) (s .args .has-seq) (s .args .seq) (s .args .ok) (s .pre) _ _ (c .before .pick-flag .ensures) (c .pick .ensures)
 
 pub with-dcid-spec : {M : Type 1} → statement M
 with-dcid-spec = tie.close (tie.spec pick-flag-requires pick-requires returns)

@@ -18,12 +18,12 @@ refusal-requires c κs = search needs
 with-scid-requires : tie.Need-with-scid-requires
 with-scid-requires c κs =
     let a = c .before .before .before .before .args in
-    λ z. (look-formed (a .t) (a .id) _ (c .before .before .before .look .ensures) (seqFormed (a .has) (a .seq)) _ (ap (λ (b : Bool). b && seqFormed (a .has) (a .seq)) (c .before .before .before .look .ensures .formed)) _ (c .before .refusal .ensures) z, seq-asked (a .t) (a .id) _ (c .before .before .before .look .ensures) (seqFormed (a .has) (a .seq)) _ (ap (λ (b : Bool). b && seqFormed (a .has) (a .seq)) (c .before .before .before .look .ensures .formed)) _ (c .before .refusal .ensures) z)
+    λ z. (look-formed (a .t) (a .id) _ (c .before .before .before .look .ensures) (seqFormed (a .has-seq) (a .seq)) _ (ap (λ (b : Bool). b && seqFormed (a .has-seq) (a .seq)) (c .before .before .before .look .ensures .formed)) _ (c .before .refusal .ensures) z, seq-asked (a .t) (a .id) _ (c .before .before .before .look .ensures) (seqFormed (a .has-seq) (a .seq)) _ (ap (λ (b : Bool). b && seqFormed (a .has-seq) (a .seq)) (c .before .before .before .look .ensures .formed)) _ (c .before .refusal .ensures) z)
 
 returns : tie.Need-returns
 returns c =
     let a = c .before .before .before .before .before .args in
-    puts (a .t) (a .id) _ (c .before .before .before .before .look .ensures) (seqFormed (a .has) (a .seq)) _ (ap (λ (b : Bool). b && seqFormed (a .has) (a .seq)) (c .before .before .before .before .look .ensures .formed)) _ (c .before .before .refusal .ensures) _ (SetScid (given (a .has) (a .seq))) (c .with-scid .ensures) refl
+    puts (a .t) (a .id) _ (c .before .before .before .before .look .ensures) (seqFormed (a .has-seq) (a .seq)) _ (ap (λ (b : Bool). b && seqFormed (a .has-seq) (a .seq)) (c .before .before .before .before .look .ensures .formed)) _ (c .before .before .refusal .ensures) _ (SetScid (given (a .has-seq) (a .seq))) (c .with-scid .ensures) refl
 
 pub set-scid-seq-at-spec : {M : Type 1} → statement M
 set-scid-seq-at-spec = tie.close (tie.spec look-requires refusal-requires with-scid-requires returns)

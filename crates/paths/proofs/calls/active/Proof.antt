@@ -2,7 +2,8 @@
 use mathlib.Core.Path.{refl, ap, _∙_}
 use mathlib.Core.Bool.{false}
 use borrow.Author.Needs.{needs}
-use Rattle.paths_rules.specs.Path.{Path, inUse}
+use Rattle.paths_rules.specs.State.{Path}
+use Rattle.paths_rules.specs.Path.{inUse}
 use Rattle.paths_rules.specs.Table.{pathAt}
 use Rattle.paths_rules.specs.Calls.{Active}
 use Rattle.path.specs.Reading.{pathView}

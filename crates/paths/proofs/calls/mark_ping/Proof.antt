@@ -20,7 +20,7 @@ pair-or-none-requires c κs = search needs
 ping-step-requires : tie.Need-ping-step-requires
 ping-step-requires c κs =
     let a = c .before .before .before .args in
-    and-both (wellFormed (a .t)) (optionalPair (a .has) (a .pair)) (arg-test (a .t) _ (c .before .before .formed .ensures) (optionalPair (a .has) (a .pair)) _ (c .before .pair-or-none .ensures) true (c .if1 .taken)) .0
+    and-both (wellFormed (a .t)) (optionalPair (a .has-pair) (a .pair)) (arg-test (a .t) _ (c .before .before .formed .ensures) (optionalPair (a .has-pair) (a .pair)) _ (c .before .pair-or-none .ensures) true (c .if1 .taken)) .0
 
 done-requires : tie.Need-done-requires
 done-requires c κs = search needs
@@ -28,12 +28,12 @@ done-requires c κs = search needs
 returns : tie.Need-returns
 returns c =
     let a = c .before .before .before .before .args in
-    c .ping-step .ensures ∙ chosen (a .t) (optionalPair (a .has) (a .pair)) (doneOf (step (view (a .t)) (Ping (given (a .has) (a .pair))))) (doneAt 1 (a .t)) true (arg-test (a .t) _ (c .before .before .before .formed .ensures) (optionalPair (a .has) (a .pair)) _ (c .before .before .pair-or-none .ensures) true (c .before .if1 .taken))
+    c .ping-step .ensures ∙ chosen (a .t) (optionalPair (a .has-pair) (a .pair)) (doneOf (step (view (a .t)) (Ping (given (a .has-pair) (a .pair))))) (doneAt 1 (a .t)) true (arg-test (a .t) _ (c .before .before .before .formed .ensures) (optionalPair (a .has-pair) (a .pair)) _ (c .before .before .pair-or-none .ensures) true (c .before .if1 .taken))
 
 returns-2 : tie.Need-returns-2
 returns-2 c =
     let a = c .before .before .before .before .args in
-    c .done .ensures ∙ chosen (a .t) (optionalPair (a .has) (a .pair)) (doneOf (step (view (a .t)) (Ping (given (a .has) (a .pair))))) (doneAt 1 (a .t)) false (arg-test (a .t) _ (c .before .before .before .formed .ensures) (optionalPair (a .has) (a .pair)) _ (c .before .before .pair-or-none .ensures) false (c .before .if1 .left))
+    c .done .ensures ∙ chosen (a .t) (optionalPair (a .has-pair) (a .pair)) (doneOf (step (view (a .t)) (Ping (given (a .has-pair) (a .pair))))) (doneAt 1 (a .t)) false (arg-test (a .t) _ (c .before .before .before .formed .ensures) (optionalPair (a .has-pair) (a .pair)) _ (c .before .before .pair-or-none .ensures) false (c .before .if1 .left))
 
 pub mark-ping-spec : {M : Type 1} → statement M
 mark-ping-spec = tie.close (tie.spec formed-requires pair-or-none-requires ping-step-requires done-requires returns returns-2)

@@ -4,7 +4,7 @@ use mathlib.Core.Path.{refl, ap}
 use native.Mathlib.Omega.{arith}
 use borrow.Author.Needs.{needs}
 use Rattle.values.specs.Limits.{maxPaths}
-use Rattle.paths_rules.specs.Path.{Path}
+use Rattle.paths_rules.specs.State.{Path}
 use Rattle.paths.specs.ReadingLaws.{path-at}
 use Rattle.paths.specs.TableLaws.{Turned, each-done, unlistBoth, both-more, replaced-is}
 use Rattle.paths.proofs.changes.replaced.Statement.{statement}

@@ -19,11 +19,11 @@ mul-d c = search needs
 element-copy-out-d : tie.Need-element-copy-out-d Inv-loop μ-loop
 element-copy-out-d c = search needs
 
-mix-flag-requires : tie.Need-mix-flag-requires Inv-loop μ-loop
-mix-flag-requires c κs = search needs
-
 mix-requires : tie.Need-mix-requires Inv-loop μ-loop
 mix-requires c κs = search needs
+
+mix-flag-requires : tie.Need-mix-flag-requires Inv-loop μ-loop
+mix-flag-requires c κs = search needs
 
 add-i : tie.Need-add-i Inv-loop μ-loop
 add-i c = search needs
@@ -38,17 +38,4 @@ returns : tie.Need-returns Inv-loop μ-loop
 returns c = search needs
 
 pub of-timers-spec : {M : Type 1} → statement M
-of-timers-spec =
-    tie.close
-    (tie.spec
-    Inv-loop
-    μ-loop
-    loop-holds
-    mul-d
-    element-copy-out-d
-    mix-flag-requires
-    mix-requires
-    add-i
-    loop-less
-    loop-again
-    returns)
+of-timers-spec = tie.close (tie.spec Inv-loop μ-loop loop-holds mul-d element-copy-out-d mix-requires mix-flag-requires add-i loop-less loop-again returns)

@@ -10,9 +10,6 @@ Inv-loop h q r₀ i₀ r i = i ≤ 128
 abbrev μ-loop : tie.MeasureT-loop
 μ-loop h q r₀ i₀ r i = 128 - i
 
-mix-requires : tie.Need-mix-requires Inv-loop μ-loop
-mix-requires c κs = search needs
-
 loop-holds : tie.Need-loop-holds Inv-loop μ-loop
 loop-holds c = search needs
 
@@ -22,8 +19,8 @@ mul-n c = search needs
 element-copy-out-n : tie.Need-element-copy-out-n Inv-loop μ-loop
 element-copy-out-n c = search needs
 
-mix-requires-2 : tie.Need-mix-requires-2 Inv-loop μ-loop
-mix-requires-2 c κs = search needs
+mix-requires : tie.Need-mix-requires Inv-loop μ-loop
+mix-requires c κs = search needs
 
 add-i : tie.Need-add-i Inv-loop μ-loop
 add-i c = search needs
@@ -34,21 +31,11 @@ loop-less c = search needs
 loop-again : tie.Need-loop-again Inv-loop μ-loop
 loop-again c = search needs
 
+mix-requires-2 : tie.Need-mix-requires-2 Inv-loop μ-loop
+mix-requires-2 c κs = search needs
+
 returns : tie.Need-returns Inv-loop μ-loop
 returns c = search needs
 
 pub of-queue-spec : {M : Type 1} → statement M
-of-queue-spec =
-    tie.close
-    (tie.spec
-    Inv-loop
-    μ-loop
-    mix-requires
-    loop-holds
-    mul-n
-    element-copy-out-n
-    mix-requires-2
-    add-i
-    loop-less
-    loop-again
-    returns)
+of-queue-spec = tie.close (tie.spec Inv-loop μ-loop loop-holds mul-n element-copy-out-n mix-requires add-i loop-less loop-again mix-requires-2 returns)

@@ -10,9 +10,6 @@ Inv-loop h t r₀ i₀ r i = i ≤ 31
 abbrev μ-loop : tie.MeasureT-loop
 μ-loop h t r₀ i₀ r i = 31 - i
 
-mix-requires : tie.Need-mix-requires Inv-loop μ-loop
-mix-requires c κs = search needs
-
 loop-holds : tie.Need-loop-holds Inv-loop μ-loop
 loop-holds c = search needs
 
@@ -34,21 +31,11 @@ loop-less c = search needs
 loop-again : tie.Need-loop-again Inv-loop μ-loop
 loop-again c = search needs
 
+mix-requires : tie.Need-mix-requires Inv-loop μ-loop
+mix-requires c κs = search needs
+
 returns : tie.Need-returns Inv-loop μ-loop
 returns c = search needs
 
 pub of-table-spec : {M : Type 1} → statement M
-of-table-spec =
-    tie.close
-    (tie.spec
-    Inv-loop
-    μ-loop
-    mix-requires
-    loop-holds
-    mul-x
-    element-copy-out-x
-    of-item-requires
-    add-i
-    loop-less
-    loop-again
-    returns)
+of-table-spec = tie.close (tie.spec Inv-loop μ-loop loop-holds mul-x element-copy-out-x of-item-requires add-i loop-less loop-again mix-requires returns)

@@ -7,7 +7,7 @@ use Rattle.ids.specs.Reading.{freedCall}
 use Rattle.ids.specs.Runs as R
 use Rattle.ids_rules.specs.Calls as C
 use Rattle.lent.specs.Kind.{kind}
-use Rattle.vignorasc.proofs.Sorts.{connection-id, freed-parts, freed-parts-answer, freed-parts-rpt, freed-parts-source, numbered, u64}
+use Rattle.vignorasc.proofs.Sorts.{connection-id, freed-parts, freed-parts-answer, freed-parts-retire-prior-to, freed-parts-scids, numbered, u64}
 use Rattle.lent.specs.Store.{sets}
 use Rattle.vignorasc.proofs.IdsFields.{stores-fields}
 use Rattle.ids.proofs.retire_scid_at.Symbol as g
@@ -19,8 +19,8 @@ use Rattle.vignorasc.proofs.ids_calls.vig_ids_retire_scid.Code as code
 pub vig-ids-retire-scid-spec : {M : Type 1} → stated.statement M
 unfolding code.routine
 vig-ids-retire-scid-spec {M} =
-    stores-fields (u64 ∷ kind connection-id ∷ []) freed-parts (kind numbered) freed-parts-answer (sets 0 freed-parts-source refl ∷ sets 8 freed-parts-rpt refl ∷ [])
-    (λ t r. putSourceRpt (r .source) (r .rpt) t) (λ t (seq, (packet, _)). freedCall t (idFormed packet) (C.RetireScid seq packet)) (λ r. r .answer) (λ r. r .ids)
+    stores-fields (u64 ∷ kind connection-id ∷ []) freed-parts (kind numbered) freed-parts-answer (sets 0 freed-parts-scids refl ∷ sets 8 freed-parts-retire-prior-to refl ∷ [])
+    (λ t r. putSourceRpt (r .scids) (r .«retire_prior_to») t) (λ t (seq, (packet, _)). freedCall t (idFormed packet) (C.RetireScid seq packet)) (λ r. r .answer) (λ r. r .ids)
     (λ t (seq, (packet, _)) r u. R.Freed (record { ids = u; answer = r }) ≡ R.result t (R.RetireScid seq packet)) (λ t x r u p q i. R.Freed (record { ids = q i; answer = p i }))
     (λ t r. refl) (λ t r w o. (o .0, (w .1 .0, (w .1 .1 .0, (w .1 .1 .1 .0, (w .1 .1 .1 .1 .0, (w .1 .1 .1 .1 .1 .0, (w .1 .1 .1 .1 .1 .1 .0, (w .1 .1 .1 .1 .1 .1 .1 .0, (o .1 .0, w .1 .1 .1 .1 .1 .1 .1 .1 .1))))))))))
     f.name g.name code.env g.routine code.calls-ids·retire-scid-at (λ M. code.unfolded) (λ M. g-thm.met) M

@@ -18,6 +18,6 @@ use Rattle.vignorasc.proofs.paths_calls.vig_paths_mark_ping.Code as cod
 pub vig-paths-mark-ping-spec : {M : Type 1} → stated.statement M
 unfolding code.routine
 vig-paths-mark-ping-spec {M} =
-    stores-whole paths (bool ∷ kind four-tuple ∷ []) paths-done-out (kind done) paths-done-out-paths paths-done-out-answer (λ t (has, (pair, _)). doneCall t (optionalPair has pair) (C.Ping (given has pair)))
-    (λ t (has, (pair, _)) r u. R.Done (record { paths = u; answer = r }) ≡ R.result t (R.MarkPing has pair)) (λ t x r e. ap R.Done e)
+    stores-whole paths (bool ∷ kind four-tuple ∷ []) paths-done-out (kind done) paths-done-out-paths paths-done-out-answer (λ t («has_pair», (pair, _)). doneCall t (optionalPair «has_pair» pair) (C.Ping (given «has_pair» pair)))
+    (λ t («has_pair», (pair, _)) r u. R.Done (record { paths = u; answer = r }) ≡ R.result t (R.MarkPing «has_pair» pair)) (λ t x r e. ap R.Done e)
     f.name g.name code.env g.routine code.calls-paths·mark-ping (λ M. code.unfolded) (λ M. g-thm.met) M

@@ -19,6 +19,6 @@ pub vig-paths-set-dcid-seq-spec : {M : Type 1} → stated.statement M
 unfolding code.routine
 vig-paths-set-dcid-seq-spec {M} =
     puts (u64 ∷ bool ∷ u64 ∷ []) placed (kind done) (record { item = placed-path; at = placed-place; answer = placed-answer })
-    (λ t (id, (has, (seq, _))). doneCall t (seqFormed has seq) (C.On id (C.SetDcid (given has seq)))) (λ r. r .answer) (λ r. r .paths)
-    (λ t (id, (has, (seq, _))) r u. R.Done (record { paths = u; answer = r }) ≡ R.result t (R.SetDcidSeq id has seq)) (λ t x r u p q i. R.Done (record { paths = q i; answer = p i }))
+    (λ t (id, («has_seq», (seq, _))). doneCall t (seqFormed «has_seq» seq) (C.On id (C.SetDcid (given «has_seq» seq)))) (λ r. r .answer) (λ r. r .paths)
+    (λ t (id, («has_seq», (seq, _))) r u. R.Done (record { paths = u; answer = r }) ≡ R.result t (R.SetDcidSeq id «has_seq» seq)) (λ t x r u p q i. R.Done (record { paths = q i; answer = p i }))
     f.name g.name code.env g.routine code.calls-paths·set-dcid-seq-at (λ M. code.unfolded) (λ M. g-thm.met) M
