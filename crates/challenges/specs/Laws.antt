@@ -6,9 +6,8 @@ use mathlib.Core.Bool.{Bool, true, false, cond}
 use mathlib.Core.Option.{Option, none, some}
 use native.Mathlib.Omega.{arith}
 use native.Mathlib.Nat.{not-suc-le-zero}
-use lib.Dec.{leb}
 use lib.ListN.{length, take, drop, set, getD, length-append, length-drop, length-map}
-use borrow.Author.Tests.{le-leb, leb-false, lt-leb}
+use borrow.Author.Tests.{le-leb, lt-leb}
 use Rattle.lists.specs.Defs.{front, keep, maybe, over, padded, picked, without}
 use Rattle.lists.specs.Held.{Held, held-length, held-count, held-push, held-more, held-of, take-padded, padded-push, shift-done}
 use Rattle.values.specs.Limits.{maxPathChalsRecv, maxPathChalsSent}
@@ -88,13 +87,6 @@ module _ (l : List ℕ) (q : Received) (e : q ≡ receivedOf l) where
 
   pub received-room : length l < maxPathChalsRecv → ReceivedWell q × (q .count < maxPathChalsRecv)
   received-room h = (received-at (omega arith), omega (arith, ap (λ (u : Received). u .count) e))
-
-pub roomed-few : (l : List ℕ) → length l ≤ maxPathChalsRecv → length (roomed l) < maxPathChalsRecv
-roomed-few l h = go (leb maxPathChalsRecv (length l)) refl
-  where
-    go : (b : Bool) → leb maxPathChalsRecv (length l) ≡ b → length (cond b (drop 1 l) l) < maxPathChalsRecv
-    go true t = omega (arith, length-drop 1 l)
-    go false t = leb-false maxPathChalsRecv (length l) t
 
 -- ---- the challenges sent
 

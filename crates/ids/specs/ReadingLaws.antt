@@ -16,13 +16,13 @@ use Rattle.values.specs.Cid.{idFormed}
 use Rattle.values.specs.Token.{tokenFormed, tokenView}
 use Rattle.values.specs.declared.token.Token.{Token}
 use Rattle.ids_rules.specs.Values.{Item}
-use Rattle.ids_rules.specs.View.{View, Out}
+use Rattle.ids_rules.specs.View.{View}
 use Rattle.tables.specs.Table.{zeroItem, live, entries, tableOf, queueOf, TableWell, QueueWell}
 use Rattle.tables.specs.Laws.{entries-long, queue-is, live-long, table-is}
 use Rattle.ids_state.specs.Formed.{wellFormed}
 use Rattle.ids_state.specs.Laws.{zeros-is, Facts, facts}
 use Rattle.ids_state.specs.declared.state.Ids.{Ids}
-use Rattle.ids.specs.Reading.{itemView, view, tokenOf, pathOf, itemOf, idsOf, pathFormed, doneOf, issuedOf, freedOf, retiredOf}
+use Rattle.ids.specs.Reading.{itemView, view, tokenOf, pathOf, itemOf, idsOf, pathFormed}
 use Rattle.tables.specs.declared.items.Item as I
 use Rattle.ids_state.specs.Formed as F
 
@@ -164,17 +164,3 @@ module _ (s : Ids) (w : wellFormed s ≡ true) where
     «scids_to_advertise» = advertise-back i;
     «dcids_to_retire» = retire-back i;
   }
-
--- ---- what a call gives, read again, is the outcome's view
-
-pub done-view : (o : Out) → view (doneOf o .ids) ≡ o .view
-done-view o = view-of (o .view)
-
-pub issued-view : (o : Out) → view (issuedOf o .ids) ≡ o .view
-issued-view o = view-of (o .view)
-
-pub freed-view : (o : Out) → view (freedOf o .ids) ≡ o .view
-freed-view o = view-of (o .view)
-
-pub retired-view : (o : Out) → view (retiredOf o .ids) ≡ o .view
-retired-view o = view-of (o .view)

@@ -4,7 +4,7 @@ use Prim.Native.Nat.{ℕ}
 use mathlib.Core.Path.{_≡_, refl}
 use mathlib.Core.List.{List, [], _∷_, map}
 use mathlib.Core.Bool.{true, false}
-use lib.ListN.{length, replicate}
+use lib.ListN.{replicate}
 use Rattle.values.specs.Cid.{cidNew}
 use Rattle.values.specs.Limits.{tokenLen}
 use Rattle.values.specs.Token.{zeroToken}

@@ -1,7 +1,7 @@
 -- The first state, the first destination ID and the source limit, as the code makes them.
 use Prim.Native.Nat.{ℕ, _-_, _*_, min, max}
 use mathlib.Core.Path.{_≡_, refl, sym, ap, ap₂, _∙_}
-use mathlib.Core.List.{[], _∷_, _++_, map}
+use mathlib.Core.List.{[], _∷_, map}
 use mathlib.Core.Bool.{Bool, true, false, cond, _&&_}
 use Rattle.lists.specs.Defs.{given}
 use Rattle.lists.specs.Bools.{and-both}
@@ -12,7 +12,7 @@ use Rattle.values.specs.declared.token.Token.{Token}
 use Rattle.values.specs.declared.cid.ConnectionId.{ConnectionId}
 use Rattle.ids_rules.specs.View.{Out, refused, accepted, Nothing}
 use Rattle.ids_rules.specs.Steps.{fresh, zeroView, freshFormed, setScidLimit, setInitialDcid}
-use Rattle.tables.specs.Table.{live, tableOf}
+use Rattle.tables.specs.Table.{tableOf}
 use Rattle.tables.specs.declared.items.Table.{Table}
 use Rattle.ids_state.specs.Formed.{wellFormed}
 use Rattle.ids_state.specs.declared.state.Ids.{Ids}

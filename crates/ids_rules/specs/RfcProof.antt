@@ -146,14 +146,6 @@ ignored v f h c k l =
 
 -- ---- late sequences, and raised ones
 
-has-left : (s : ℕ) (l m : List ℕ) → has s l ≡ true → has s (l ++ m) ≡ true
-has-left s [] m e = never (sym e)
-has-left s (x ∷ l) m e = test (eqb s x) e (has-left s l m)
-  where
-    test : (b : Bool) → (b || has s l) ≡ true → (has s l ≡ true → has s (l ++ m) ≡ true) → (b || has s (l ++ m)) ≡ true
-    test true e i = refl
-    test false e i = i e
-
 has-right : (s : ℕ) (l m : List ℕ) → has s m ≡ true → has s (l ++ m) ≡ true
 has-right s [] m e = e
 has-right s (x ∷ l) m e = rw (has-right s l m e, or-true)

@@ -1,5 +1,5 @@
 -- docs/RULES.md, "Well-formed IDs": its sixteen conjuncts, one definition for each, and the theorem that `wellFormed` is exactly these.
-use Prim.Native.Nat.{ℕ, _-_, _*_, _%_, _≤_, _<_}
+use Prim.Native.Nat.{_-_, _*_, _%_}
 use mathlib.Core.Path.{_≡_, refl, sym, ap, _∙_}
 use mathlib.Core.List.{List, [], _∷_}
 use mathlib.Core.Bool.{Bool, true, false, not, _&&_, _||_}

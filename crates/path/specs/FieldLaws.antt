@@ -9,7 +9,6 @@ use lib.ListN.{length}
 use borrow.Author.Tests.{ne-eqb}
 use Rattle.lists.specs.Defs.{given, empty}
 use Rattle.values.specs.Limits.{minPathProbeSize}
-use Rattle.values.specs.Address.{samePair}
 use Rattle.values.specs.declared.address.FourTuple.{FourTuple}
 use Rattle.challenges.specs.Challenges.{waiting, receivedOf, sentOf}
 use Rattle.challenges.specs.Laws.{waiting-long}

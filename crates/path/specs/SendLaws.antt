@@ -1,5 +1,5 @@
 -- A challenge is sent: when it is refused, and what it makes of the state.
-use Prim.Native.Nat.{ℕ, _+_, _*_, _^_, _%_, _≤_, _<_, max}
+use Prim.Native.Nat.{ℕ, _*_, _^_, _%_, _≤_, _<_, max}
 use mathlib.Core.Path.{_≡_, refl, sym, ap, ap₂, _∙_}
 use mathlib.Core.List.{List, [], _∷_, _++_, map}
 use mathlib.Core.Bool.{Bool, true, false, cond, _||_}

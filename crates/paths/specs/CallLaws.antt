@@ -35,7 +35,6 @@ use Rattle.paths.specs.declared.answers.PoppedOut.{PoppedOut}
 use Rattle.paths.specs.declared.answers.RespondedOut.{RespondedOut}
 use Rattle.path.specs.SendLaws as N
 use Rattle.paths_state.specs.declared.state.Path as S
-use Rattle.paths_state.specs.Formed as F
 
 -- ---- the tests
 

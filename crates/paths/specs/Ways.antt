@@ -1,7 +1,7 @@
 -- Each way through the definitions of fresh, insert_path and mark_ping, as the code makes it.
 use Prim.Native.Nat.{_<_, _≤_, ℕ}
 use mathlib.Core.Path.{_∙_, _≡_, ap, ap₂, refl, sym}
-use mathlib.Core.Bool.{Bool, _&&_, cond, false, not, true}
+use mathlib.Core.Bool.{Bool, _&&_, cond, false, true}
 use mathlib.Core.Option.{Option}
 use native.Mathlib.Omega.{arith}
 use lib.Dec.{ltb}

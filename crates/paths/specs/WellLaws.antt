@@ -16,7 +16,7 @@ use Rattle.lists.specs.Maps.{all-map}
 use Rattle.values.specs.Limits.{maxPaths, maxPathChalsRecv, maxPathChalsSent, maxLost}
 use Rattle.values.specs.declared.address.FourTuple.{FourTuple}
 use Rattle.paths_rules.specs.State.{Challenge, Path}
-use Rattle.paths_rules.specs.Table.{Table, Out, refused}
+use Rattle.paths_rules.specs.Table.{Table, refused}
 use Rattle.paths_rules.specs.Calls.{Call, Ping, callFormed, step, apply}
 use Rattle.challenges.specs.Challenges.{zeroChallenge, waiting, standing}
 use Rattle.challenges.specs.Laws.{waiting-long, standing-long}
@@ -25,8 +25,8 @@ use Rattle.paths_state.specs.Laws as L
 use Rattle.paths_state.specs.Laws.{path-facts, facts, well-of}
 use Rattle.paths_state.specs.declared.state.Paths.{Paths}
 use Rattle.path.specs.Reading.{chalView, chalOf, pathView, seqOf, pathOf}
-use Rattle.paths.specs.Reading.{view, pathsOf, optionalPair, doneOf, insertedOf, poppedOf, respondedOf}
-use Rattle.paths.specs.ReadingLaws.{tidy, live-of, view-of, paths-long, tidy-of}
+use Rattle.paths.specs.Reading.{view, pathsOf, optionalPair}
+use Rattle.paths.specs.ReadingLaws.{tidy, live-of, paths-long, tidy-of}
 use Rattle.paths_state.specs.declared.state.Path as S
 use Rattle.paths_state.specs.Formed as F
 use Rattle.paths_rules.specs.Well as W
@@ -151,16 +151,3 @@ applies t w c f = sym (ap₂ (λ (a b : Bool). cond (a && b) (step (view t) c) (
 pub ping-formed : (has : Bool) (p : FourTuple) → optionalPair has p ≡ true → callFormed (Ping (given has p)) ≡ true
 ping-formed true p e = e
 ping-formed false p e = refl
-
--- what a call gives, read again, is the outcome's table
-pub done-view : (o : Out) → view (doneOf o .paths) ≡ o .table
-done-view o = view-of (o .table)
-
-pub inserted-view : (o : Out) → view (insertedOf o .paths) ≡ o .table
-inserted-view o = view-of (o .table)
-
-pub popped-view : (o : Out) → view (poppedOf o .paths) ≡ o .table
-popped-view o = view-of (o .table)
-
-pub responded-view : (o : Out) → view (respondedOf o .paths) ≡ o .table
-responded-view o = view-of (o .table)

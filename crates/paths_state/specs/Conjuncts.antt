@@ -1,5 +1,5 @@
 -- docs/RULES.md, "Well-formed paths": its ten conjuncts, one definition for each, and the theorem that `wellFormed` is exactly these.
-use mathlib.Core.Path.{_≡_, refl, sym, ap, ap₂, _∙_}
+use mathlib.Core.Path.{_≡_, refl, sym, ap, _∙_}
 use mathlib.Core.List.{List, [], _∷_}
 use mathlib.Core.Bool.{Bool, true, false, _&&_, and-true}
 use lib.Dec.{leb}

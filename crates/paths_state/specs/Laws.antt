@@ -4,11 +4,10 @@ use mathlib.Core.Path.{_≡_, refl, sym, ap, ap₂, _∙_}
 use mathlib.Core.List.{List, [], _∷_}
 use mathlib.Core.Bool.{Bool, true, false, not, cond, _&&_, _||_, and-assoc, and-false, and-true}
 use native.Mathlib.Omega.{arith}
-use native.Mathlib.Nat.{not-suc-le-zero, le-of-suc-le-suc}
 use lib.Bits.{bitAnd, bitOr, and-le-l, and-le-r, or-add-and, or-lt}
 use lib.Dec.{eqb, leb, ltb}
 use lib.ListN.{length, take, drop, getD, replicate}
-use lib.Seq.{drop-at, getD-take, length-take-le}
+use lib.Seq.{drop-at}
 use borrow.Author.Tests.{eq-eqb, eqb-true, le-leb, leb-false, leb-true, lt-leb, ltb-false, ltb-true, not-true}
 use Rattle.lists.specs.Defs.{all, nought, pairwise, past}
 use Rattle.lists.specs.Bools.{and-both, conj-each}
@@ -304,18 +303,6 @@ facts t e =
     let v = conj-each (all pathFormed (live t)) (pairwise apart (live t) ∷ past noPath maxPaths (t .count) (t .items) ∷ []) (w .1) in
     let few : t .count ≤ maxPaths = omega (arith, b .few, b .limit-most) in
     record { bounds = b; each = v .0; distinct = v .1 .0; held = record { few = few; is = past-is noPath zeroPath zero-path-is maxPaths (t .count) (t .items) few (v .1 .1 .0) } }
-
-all-at : {A : Type 0} (p : A → Bool) (d : A) (l : List A) (i : ℕ) → all p l ≡ true → i < length l → p (getD l i d) ≡ true
-all-at p d [] i e h = absurd (not-suc-le-zero h)
-all-at p d (x ∷ xs) zero e h = and-both (p x) (all p xs) e .0
-all-at p d (x ∷ xs) (suc i) e h = all-at p d xs i (and-both (p x) (all p xs) e .1) (le-of-suc-le-suc h)
-
--- a path of a well-formed state, as the code reads it
-pub facts-at : (t : Paths) → Facts t → (d : Path) (i : ℕ) → i < t .count → PathFacts (getD (t .items) i d)
-facts-at t f d i h =
-    let l = held-length (f .held) in
-    let n : length (live t) ≡ t .count = length-take-le (t .count) (t .items) (omega (arith, f .held .few)) in
-    path-facts (getD (t .items) i d) (ap pathFormed (sym (getD-take (t .count) (t .items) i d h)) ∙ all-at pathFormed d (live t) i (f .each) (omega arith))
 
 -- ---- and what has these facts is well formed
 

@@ -1,26 +1,26 @@
 -- Laws of the timer table: reading and building are inverse, every call keeps the table well formed, and what a turn of the search for the least deadline does.
-use Prim.Native.Nat.{ℕ, suc, _+_, _<_, _≤_, min}
+use Prim.Native.Nat.{ℕ, _+_, _<_, min}
 use mathlib.Core.Path.{_≡_, refl, sym, ap, ap₂, _∙_}
 use mathlib.Core.List.{List, [], _∷_, _++_, map, append-nil}
-use mathlib.Core.Bool.{Bool, true, false, not, cond, _&&_, _||_}
+use mathlib.Core.Bool.{Bool, true, false, cond, _&&_}
 use mathlib.Core.Option.{Option, none, some}
 use native.Mathlib.Omega.{arith}
 use native.Mathlib.Numerals.{add-one}
 use lib.Dec.{eqb, leb, ltb}
-use lib.ListN.{length, take, drop, getD, set, replicate, length-map, length-set, List·getD-map}
+use lib.ListN.{length, take, getD, set, length-map, length-set, List·getD-map}
 use lib.Seq.{take-suc}
-use borrow.Author.Tests.{eqb-true, eq-eqb, ltb-true, ltb-false, lt-ltb, le-ltb, le-leb, leb-true}
-use Rattle.lists.specs.Defs.{all, past, least, less, somes, maybe, given}
+use borrow.Author.Tests.{eqb-true, eq-eqb, ltb-true, ltb-false}
+use Rattle.lists.specs.Defs.{all, least, less, somes, maybe, given}
 use Rattle.lists.specs.Bools.{and-both}
 use Rattle.lists.specs.Search.{least-snoc}
-use Rattle.lists.specs.Maps.{map-set, map-is, somes-append, all-set, all-map}
+use Rattle.lists.specs.Maps.{map-set, map-is, somes-append, all-set}
 use Rattle.lists.specs.Held.{getD-in}
-use Rattle.values.specs.Limits.{timerCount, maxMoment}
+use Rattle.values.specs.Limits.{timerCount}
 use Rattle.values.specs.declared.time.Deadline.{Deadline}
 use Rattle.values.specs.Time.{momentFormed, deadlineFormed, deadlineView, deadlineOf}
 use Rattle.values.specs.Laws.{deadline-is, deadline-of}
 use Rattle.timers.specs.declared.table.TimerTable.{TimerTable}
-use Rattle.timers.specs.Timers.{Timers, wellFormed, view, timersOf, freshTimers, setTimer, stopTimer, getTimer, nextTimeout, expired, soonerOf}
+use Rattle.timers.specs.Timers.{Timers, wellFormed, view, timersOf, freshTimers, setTimer, stopTimer, getTimer, nextTimeout, soonerOf}
 
 -- ---- reading and building
 

@@ -6,11 +6,11 @@
 -- is the table after the calls cs, one after the other, refused ones too.
 use Prim.Native.Nat.{ℕ}
 use mathlib.Core.Path.{_≡_}
-use mathlib.Core.List.{List, [], _∷_, map}
+use mathlib.Core.List.{List, [], _∷_}
 use mathlib.Core.Bool.{Bool, true, false, not, _&&_}
-use mathlib.Core.Option.{Option, none, some}
+use mathlib.Core.Option.{none}
 use lib.Dec.{eqb}
-use Rattle.lists.specs.Defs.{keep, maybe}
+use Rattle.lists.specs.Defs.{keep}
 use Rattle.values.specs.declared.time.Moment.{Moment}
 use Rattle.values.specs.declared.answers.Flagged.{Flagged}
 use Rattle.values.specs.declared.answers.Timed.{Timed}

@@ -1,21 +1,20 @@
 -- Every promise of Runs.antt holds; and a run that reaches every call and every answer, computed.
 use Prim.Native.Nat.{ℕ, _^_}
 use mathlib.Core.Path.{_≡_, refl, sym, ap, ap₂, _∙_}
-use mathlib.Core.List.{List, [], _∷_, map}
+use mathlib.Core.List.{List, [], _∷_}
 use mathlib.Core.Bool.{Bool, true, false, cond, not, _&&_, and-assoc}
-use mathlib.Core.Option.{Option, none, some}
+use mathlib.Core.Option.{none, some}
 use lib.Dec.{eqb}
 use Rattle.lists.specs.Bools.{and-both}
 use Rattle.lists.specs.Defs.{keep}
 use Rattle.values.specs.declared.time.Moment.{Moment}
 use Rattle.values.specs.Time.{momentFormed}
 use Rattle.timers.specs.declared.table.TimerTable.{TimerTable}
-use Rattle.timers.specs.declared.table.TimersOut.{TimersOut}
 use Rattle.timers.specs.Timers.{Timers, wellFormed, view, timersOf, freshTimers, setTimer, stopTimer, getTimer, nextTimeout, expired}
 use Rattle.timers.specs.Calls.{isTimer, outAt, timedAt, flaggedAt, freshCall}
 use Rattle.timers.specs.Laws.{view-of, fresh-formed, set-formed, stop-formed}
 use Rattle.timers.specs.Runs.{CodeCall, Set, Get, Stop, NextTimeout, IsExpired, Clear, argsFormed, Result, Done, ATime, AFlag, result, stateIn, refusalIn, made, refusal, calls, refusedAt}
-use Rattle.timers.specs.Runs.{Malformed, Accepted, KeepsWell, FreshWell, RunsWell, NeverOne, step, run, IsRun, Held}
+use Rattle.timers.specs.Runs.{Malformed, Accepted, KeepsWell, RunsWell, NeverOne, step, run, IsRun, Held}
 
 -- ---- one call, by whether the test passes
 

@@ -1,9 +1,7 @@
 -- docs/RULES.md, "Refusals": every refusal with its number and the transport error code of RFC 9000, 20.1 that it has on the wire.
 use Prim.Native.Nat.{ℕ}
 use mathlib.Core.Path.{_≡_, refl}
-use mathlib.Core.Option.{Option, none, some}
 use mathlib.Core.List.{List, [], _∷_}
-use mathlib.Core.Bool.{cond}
 use lib.Dec.{eqb}
 use Rattle.lists.specs.Defs.{first, maybe}
 

@@ -2,7 +2,7 @@
 use Prim.Native.Nat.{ℕ}
 use mathlib.Core.Path.{_≡_, refl}
 use mathlib.Core.List.{List, [], _∷_, _++_, map}
-use mathlib.Core.Bool.{Bool, true}
+use mathlib.Core.Bool.{true}
 use Rattle.lists.specs.Defs.{all, has}
 use Rattle.ids_rules.specs.Trials as I
 use Rattle.paths_rules.specs.Trials as P

@@ -1,5 +1,5 @@
 -- The flag is the definition's test; `fresh` gives the table.
-use mathlib.Core.Path.{_≡_, sym, ap, _∙_}
+use mathlib.Core.Path.{sym, ap, _∙_}
 use mathlib.Core.Bool.{Bool, cond}
 use borrow.Author.Needs.{needs}
 use Rattle.timers.specs.Calls.{outAt, freshCall}

@@ -1,5 +1,5 @@
 -- The flag is the definition's test; the step's contract gives the deadline.
-use mathlib.Core.Path.{_≡_, sym, ap, _∙_}
+use mathlib.Core.Path.{sym, ap, _∙_}
 use mathlib.Core.Bool.{Bool, cond, _&&_}
 use mathlib.Core.Option.{none}
 use borrow.Author.Needs.{needs}

@@ -1,5 +1,5 @@
 -- The flag is the definition's test; the step's contract gives the answer.
-use mathlib.Core.Path.{_≡_, sym, ap, ap₂, _∙_}
+use mathlib.Core.Path.{sym, ap, ap₂, _∙_}
 use mathlib.Core.Bool.{Bool, false, cond, _&&_}
 use borrow.Author.Needs.{needs}
 use borrow.Author.Tests.{ltb-true}

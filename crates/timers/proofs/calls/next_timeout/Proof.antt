@@ -1,5 +1,5 @@
 -- The step's contract gives the deadline.
-use mathlib.Core.Path.{_≡_, sym, ap, _∙_}
+use mathlib.Core.Path.{sym, ap, _∙_}
 use mathlib.Core.Bool.{Bool, cond}
 use mathlib.Core.Option.{none}
 use borrow.Author.Needs.{needs}

@@ -1,11 +1,9 @@
 -- The flag is the definition's test; the step's contract gives the table.
-use mathlib.Core.Path.{_≡_, sym, ap, ap₂, _∙_}
+use mathlib.Core.Path.{sym, ap, ap₂, _∙_}
 use mathlib.Core.Bool.{Bool, cond, _&&_}
 use borrow.Author.Needs.{needs}
 use borrow.Author.Tests.{ltb-true}
 use Rattle.lists.specs.Bools.{and-both}
-use Rattle.timers.specs.declared.table.TimersOut.{TimersOut}
-use Rattle.timers.specs.declared.table.TimerTable.{TimerTable}
 use Rattle.timers.specs.Timers.{view, timersOf, setTimer}
 use Rattle.timers.specs.Calls.{isTimer, outAt}
 use Rattle.timers.proofs.calls.set.Statement.{statement}

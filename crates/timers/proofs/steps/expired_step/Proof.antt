@@ -1,5 +1,5 @@
 -- The flag is the definition's test of the deadline that `get_step` gives.
-use mathlib.Core.Path.{_≡_, ap, _∙_}
+use mathlib.Core.Path.{ap, _∙_}
 use mathlib.Core.Bool.{Bool, _&&_}
 use borrow.Author.Needs.{needs}
 use Rattle.timers.specs.Timers.{getTimer, view}

@@ -1,5 +1,4 @@
 -- A read of the table is one of the list that it is read as.
-use mathlib.Core.Path.{_≡_}
 use borrow.Author.Needs.{needs}
 use Rattle.timers.specs.Laws.{read}
 use Rattle.timers.proofs.steps.get_step.Statement.{statement}

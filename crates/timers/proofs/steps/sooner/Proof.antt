@@ -1,9 +1,8 @@
 -- The flag is the definition's own test.
-use mathlib.Core.Path.{_≡_, sym, ap, _∙_}
+use mathlib.Core.Path.{sym, ap, _∙_}
 use mathlib.Core.Bool.{Bool, cond, not, _&&_, _||_}
 use borrow.Author.Needs.{needs}
 use Rattle.values.specs.declared.time.Deadline.{Deadline}
-use Rattle.timers.specs.Timers.{soonerOf}
 use Rattle.timers.proofs.steps.sooner.Statement.{statement}
 use Rattle.timers.proofs.steps.sooner.Tie as tie
 

@@ -1,5 +1,4 @@
 -- A store in the table is one in the list that it is read as.
-use mathlib.Core.Path.{_≡_}
 use mathlib.Core.Option.{none}
 use borrow.Author.Needs.{needs}
 use Rattle.timers.specs.Laws.{store}
