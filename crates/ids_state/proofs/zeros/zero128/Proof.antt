@@ -1,23 +1,21 @@
--- The loop's invariant: all are zero exactly if the entries gathered so far and those that are left are.
-use Prim.Native.Nat.{_-_, _≤_}
-use mathlib.Core.Path.{_≡_, refl, sym, _∙_}
-use mathlib.Core.Bool.{_&&_}
+-- The loop gathers all of them (`Gathered`).
+use Prim.Native.Nat.{_-_}
+use mathlib.Core.Path.{refl}
 use native.Mathlib.Omega.{arith}
-use lib.ListN.{length, drop}
+use Rattle.lists.specs.Whole.{Gathered, gathered-more, gathered-done}
+use Rattle.values.specs.Limits.{queueSlots}
 use borrow.Author.Needs.{needs}
-use Rattle.lists.specs.Defs.{nought, all}
-use Rattle.lists.specs.Tests.{all-done, past-all, zeros-more}
 use Rattle.ids_state.proofs.zeros.zero128.Statement.{statement}
 use Rattle.ids_state.proofs.zeros.zero128.Tie as tie
 
 abbrev Inv-loop : tie.InvT-loop
-Inv-loop q acc₀ i₀ acc i = (i ≤ 128) × (all nought q ≡ (nought acc && all nought (drop i q)))
+Inv-loop q acc₀ i₀ acc i = Gathered 0 q acc i
 
 abbrev μ-loop : tie.MeasureT-loop
-μ-loop q acc₀ i₀ acc i = 128 - i
+μ-loop q acc₀ i₀ acc i = queueSlots - i
 
 loop-holds : tie.Need-loop-holds Inv-loop μ-loop
-loop-holds c = (omega arith, refl)
+loop-holds c = refl
 
 mul-acc : tie.Need-mul-acc Inv-loop μ-loop
 mul-acc c = search needs
@@ -32,20 +30,10 @@ loop-less : tie.Need-loop-less Inv-loop μ-loop
 loop-less c = search needs
 
 loop-again : tie.Need-loop-again Inv-loop μ-loop
-loop-again c =
-    let b = c .before .before .args .t1 in
-    let o = c .before .loop in
-    let l : length b ≡ 128 = search needs in
-    (omega arith, o .inv .1 ∙ zeros-more b (o .i) (o .acc) (omega arith))
+loop-again c = let o = c .before .loop in gathered-more 0 (c .before .before .args .t1) queueSlots (search needs) (o .acc) (o .i) (o .inv) (omega arith)
 
 returns : tie.Need-returns Inv-loop μ-loop
-returns c =
-    let b = c .before .before .args .t1 in
-    let o = c .before .loop in
-    let l : length b ≡ 128 = search needs in
-    sym (past-all nought 128 0 b l ∙ o .inv .1 ∙ all-done nought b (o .i) (nought (o .acc)) (omega arith))
+returns c = let o = c .before .loop in gathered-done 0 (c .before .before .args .t1) queueSlots (search needs) (o .acc) (o .i) (o .inv) (omega arith)
 
 pub zero128-spec : {M : Type 1} → statement M
-zero128-spec =
-    tie.close
-    (tie.spec Inv-loop μ-loop loop-holds mul-acc array-read-acc add-i loop-less loop-again returns)
+zero128-spec = tie.close (tie.spec Inv-loop μ-loop loop-holds mul-acc array-read-acc add-i loop-less loop-again returns)

@@ -1,23 +1,20 @@
--- The loop's invariant: all are zero exactly if the bytes gathered so far and those that are left are.
-use Prim.Native.Nat.{_-_, _≤_}
-use mathlib.Core.Path.{_≡_, refl, sym, _∙_}
-use mathlib.Core.Bool.{_&&_}
+-- The loop gathers all of them (`Gathered`).
+use Prim.Native.Nat.{_-_}
+use mathlib.Core.Path.{refl}
 use native.Mathlib.Omega.{arith}
-use lib.ListN.{length, drop}
+use Rattle.lists.specs.Whole.{Gathered, gathered-more, gathered-done}
 use borrow.Author.Needs.{needs}
-use Rattle.lists.specs.Defs.{nought, all}
-use Rattle.lists.specs.Tests.{all-done, past-all, zeros-more}
 use Rattle.ids_state.proofs.zeros.zero20.Statement.{statement}
 use Rattle.ids_state.proofs.zeros.zero20.Tie as tie
 
 abbrev Inv-loop : tie.InvT-loop
-Inv-loop b acc₀ i₀ acc i = (i ≤ 20) × (all nought b ≡ (nought acc && all nought (drop i b)))
+Inv-loop b acc₀ i₀ acc i = Gathered 0 b acc i
 
 abbrev μ-loop : tie.MeasureT-loop
 μ-loop b acc₀ i₀ acc i = 20 - i
 
 loop-holds : tie.Need-loop-holds Inv-loop μ-loop
-loop-holds c = (omega arith, refl)
+loop-holds c = refl
 
 array-read-acc : tie.Need-array-read-acc Inv-loop μ-loop
 array-read-acc c = search needs
@@ -29,18 +26,10 @@ loop-less : tie.Need-loop-less Inv-loop μ-loop
 loop-less c = search needs
 
 loop-again : tie.Need-loop-again Inv-loop μ-loop
-loop-again c =
-    let b = c .before .before .args .t1 in
-    let o = c .before .loop in
-    let l : length b ≡ 20 = search needs in
-    (omega arith, o .inv .1 ∙ zeros-more b (o .i) (o .acc) (omega arith))
+loop-again c = let o = c .before .loop in gathered-more 0 (c .before .before .args .t1) 20 (search needs) (o .acc) (o .i) (o .inv) (omega arith)
 
 returns : tie.Need-returns Inv-loop μ-loop
-returns c =
-    let b = c .before .before .args .t1 in
-    let o = c .before .loop in
-    let l : length b ≡ 20 = search needs in
-    sym (past-all nought 20 0 b l ∙ o .inv .1 ∙ all-done nought b (o .i) (nought (o .acc)) (omega arith))
+returns c = let o = c .before .loop in gathered-done 0 (c .before .before .args .t1) 20 (search needs) (o .acc) (o .i) (o .inv) (omega arith)
 
 pub zero20-spec : {M : Type 1} → statement M
 zero20-spec = tie.close (tie.spec Inv-loop μ-loop loop-holds array-read-acc add-i loop-less loop-again returns)
