@@ -6,6 +6,9 @@ use mathlib.Core.Bool.{Bool, true, cond}
 use mathlib.Core.Option.{Option, none, some}
 use lib.ListN.{set, getD}
 use Rattle.values.specs.declared.answers.Done.{Done}
+use Rattle.values.specs.declared.answers.Counted.{Counted}
+use Rattle.values.specs.declared.answers.Numbered.{Numbered}
+use Rattle.values.specs.Answers.{numberedAt}
 use Rattle.ids_rules.specs.View.{View, Out}
 use Rattle.ids_rules.specs.Steps.{marked}
 use Rattle.tables.specs.Table.{zeroItem, live, entries, tableOf, queueOf, usedOf, onPath}
@@ -13,8 +16,8 @@ use Rattle.tables.specs.declared.sequences.Queue.{Queue}
 use Rattle.tables.specs.declared.items.Table.{Table}
 use Rattle.ids_state.specs.Formed.{wellFormed}
 use Rattle.ids_state.specs.declared.state.Ids.{Ids}
-use Rattle.ids.specs.Reading.{view, numberedAt, retiredOf}
-use Rattle.ids.specs.Puts.{putIssued, putSourceRpt, putLowered, putHeld}
+use Rattle.ids.specs.Reading.{view, retiredOf}
+use Rattle.ids.specs.Puts.{putIssued, putSourceRpt, putLowered, putGiven}
 use Rattle.ids.specs.declared.answers.DoneOut.{DoneOut}
 use Rattle.ids.specs.declared.answers.IssuedOut.{IssuedOut}
 use Rattle.ids.specs.declared.answers.FreedOut.{FreedOut}
@@ -26,15 +29,25 @@ use Rattle.ids.specs.declared.answers.TableOut.{TableOut}
 use Rattle.ids.specs.declared.answers.QueueOut.{QueueOut}
 
 -- u, the state with the fields put in, is s, and the answer a is b
-pub record Leaves {A : Type 0} (u s : Ids) (a b : A) : Type 0 where
+pub record Left {A : Type 0} (u s : Ids) (a b : A) : Type 0 where
   pub state : u ≡ s
   pub answer : a ≡ b
+
+-- both are what a call gives
+abbrev pub Leaves : Ids → Done → DoneOut → Type 0
+Leaves u a r = Left u (r .ids) a (r .answer)
+
+abbrev pub IssuedLeaves : Ids → Counted → IssuedOut → Type 0
+IssuedLeaves u a r = Left u (r .ids) a (r .answer)
+
+abbrev pub FreedLeaves : Ids → Numbered → FreedOut → Type 0
+FreedLeaves u a r = Left u (r .ids) a (r .answer)
 
 -- both at once
 abbrev pub doneIn : Ids → Done → DoneOut
 doneIn u a = record { ids = u; answer = a }
 
-pub done-leaves : (u : Ids) (a : Done) (r : DoneOut) → doneIn u a ≡ r → Leaves u (r .ids) a (r .answer)
+pub done-leaves : (u : Ids) (a : Done) (r : DoneOut) → doneIn u a ≡ r → Leaves u a r
 done-leaves u a r e = record { state = ap (λ (x : DoneOut). x .ids) e; answer = ap (λ (x : DoneOut). x .answer) e }
 
 -- ---- the calls that change several fields: those fields, put into the state, and the answer
@@ -48,10 +61,10 @@ freedIn s r = record { ids = putSourceRpt (r .scids) (r .«retire_prior_to») s;
 abbrev pub retiredIn : Ids → RetiredParts → RetiredOut
 retiredIn s r = record { ids = putLowered (r .dcids) (r .«dcids_to_retire») (r .«largest_peer_retire_prior_to») s; answer = r .answer }
 
-pub issued-leaves : (s : Ids) (p : IssuedParts) (r : IssuedOut) → issuedIn s p ≡ r → Leaves (putIssued (p .scids) (p .«scids_to_advertise») (p .«next_scid_seq») (p .«retire_prior_to») s) (r .ids) (p .answer) (r .answer)
+pub issued-leaves : (s : Ids) (p : IssuedParts) (r : IssuedOut) → issuedIn s p ≡ r → IssuedLeaves (putIssued (p .scids) (p .«scids_to_advertise») (p .«next_scid_seq») (p .«retire_prior_to») s) (p .answer) r
 issued-leaves s p r e = record { state = ap (λ (x : IssuedOut). x .ids) e; answer = ap (λ (x : IssuedOut). x .answer) e }
 
-pub freed-leaves : (s : Ids) (p : FreedParts) (r : FreedOut) → freedIn s p ≡ r → Leaves (putSourceRpt (p .scids) (p .«retire_prior_to») s) (r .ids) (p .answer) (r .answer)
+pub freed-leaves : (s : Ids) (p : FreedParts) (r : FreedOut) → freedIn s p ≡ r → FreedLeaves (putSourceRpt (p .scids) (p .«retire_prior_to») s) (p .answer) r
 freed-leaves s p r e = record { state = ap (λ (x : FreedOut). x .ids) e; answer = ap (λ (x : FreedOut). x .answer) e }
 
 -- no path was freed, no pair retired
@@ -62,16 +75,16 @@ abbrev pub retireNone : ℕ → Table → Queue → ℕ → RetiredParts
 retireNone refusal t q largest = record { dcids = t; «dcids_to_retire» = q; «largest_peer_retire_prior_to» = largest; answer = record { refusal = refusal; used = usedOf [] } }
 
 -- the fields that add_dcid's steps are given are those of a well-formed state: rest has its other fields
-pub record Held (t : Table) (q : Queue) (largest dcidLimit : ℕ) : Type 0 where
+pub record FromState (t : Table) (q : Queue) (largest dcidLimit : ℕ) : Type 0 where
   pub rest : Ids
-  pub well : wellFormed (putHeld t q largest dcidLimit rest) ≡ true
+  pub well : wellFormed (putGiven t q largest dcidLimit rest) ≡ true
 
-abbrev pub held : {t : Table} {q : Queue} {largest dcidLimit : ℕ} → Held t q largest dcidLimit → Ids
-held {t} {q} {largest} {dcidLimit} h = putHeld t q largest dcidLimit (h .rest)
+abbrev pub stateOf : {t : Table} {q : Queue} {largest dcidLimit : ℕ} → FromState t q largest dcidLimit → Ids
+stateOf {t} {q} {largest} {dcidLimit} h = putGiven t q largest dcidLimit (h .rest)
 
 -- put into any such state, r is what f gives of its view
 abbrev pub Gives : Table → Queue → ℕ → ℕ → RetiredParts → (f : View → Out) → Type 0
-Gives t q largest dcidLimit r f = (h : Held t q largest dcidLimit) → retiredIn (held h) r ≡ retiredOf (f (view (held h)))
+Gives t q largest dcidLimit r f = (h : FromState t q largest dcidLimit) → retiredIn (stateOf h) r ≡ retiredOf (f (view (stateOf h)))
 
 -- ---- the marks, on one table or one queue
 

@@ -1,5 +1,5 @@
 -- add_dcid: each way through the definition, on a well-formed state, as the code makes it.
-use Prim.Native.Nat.{ℕ, suc, _+_, _-_, _*_, _≤_, _<_}
+use Prim.Native.Nat.{ℕ, suc, _+_, _*_, _≤_, _<_}
 use mathlib.Core.Path.{_≡_, refl, sym, ap, ap₂, _∙_}
 use mathlib.Core.List.{List, [], _∷_, _++_, map}
 use mathlib.Core.Bool.{Bool, true, false, not, cond, _&&_}
@@ -8,7 +8,7 @@ use native.Mathlib.Omega.{arith}
 use lib.Dec.{eqb}
 use lib.ListN.{length, length-append, length-map}
 use Rattle.lists.specs.Defs.{maybe, given, same, first, keep, picked}
-use Rattle.values.specs.Limits.{queueSlots, retireFactor}
+use Rattle.values.specs.Limits.{queueSlots, retireFactor, capacityFor}
 use Rattle.values.specs.Cid.{idFormed, sameId}
 use Rattle.values.specs.Token.{tokenView}
 use Rattle.values.specs.declared.token.Token.{Token}
@@ -54,10 +54,10 @@ module _ (s : Ids) (w : wellFormed s ≡ true) where
       late-0 k y = y ∙ ap (retiredAt 0 []) (retires-is (entries (s .«dcids_to_retire») ++ (seq ∷ [])) q e) ∙ sym (ap retiredOf (late-ok seq (view s) (omega (arith, retire-long s w)) (omega (arith, k, ap (λ (z : Queue). z .count) e))))
 
   module _ (x : I.Item) where
-    pub append-3 : 2 * s .«dcid_limit» - 1 ≤ s .dcids .count → (r : RetiredOut) → r ≡ retiredAt 3 [] s → r ≡ retiredOf (append (itemView x) [] (view s))
+    pub append-3 : capacityFor (s .«dcid_limit») ≤ s .dcids .count → (r : RetiredOut) → r ≡ retiredAt 3 [] s → r ≡ retiredOf (append (itemView x) [] (view s))
     append-3 h = keeps 3 (append (itemView x) [] (view s)) (append-full (itemView x) [] (view s) (omega (arith, dcids-long s w)))
 
-    pub append-0 : F.itemFormed x ≡ true → s .dcids .count < 2 * s .«dcid_limit» - 1 → (t : Table) → t ≡ tableOf (live (s .dcids) ++ (x ∷ []))
+    pub append-0 : F.itemFormed x ≡ true → s .dcids .count < capacityFor (s .«dcid_limit») → (t : Table) → t ≡ tableOf (live (s .dcids) ++ (x ∷ []))
         → (r : RetiredOut) → r ≡ retiredAt 0 [] (putDestination t s) → r ≡ retiredOf (append (itemView x) [] (view s))
     append-0 f h t e r y =
         y ∙ ap₂ (λ (u : Table) (v : Ids). retiredAt 0 [] (putDestination u v)) (e ∙ ap tableOf (sym (snoc-back (view s .dcids) (live (s .dcids)) (itemView x) x (dcids-back s w) (item-back x f)))) (sym (view-is s w))
@@ -127,10 +127,10 @@ module _ (s : Ids) (w : wellFormed s ≡ true) (x : I.Item) (f : F.itemFormed x 
       on : raise (itemView x) b (view s) ≡ append (itemView x) (pairs (keep (below b) (view s .dcids))) (lowered b (view s))
       on = raise-on (itemView x) b (view s) (omega (arith, queued-long)) (omega (arith, n, count-q))
 
-      pub raise-3 : 2 * s .«dcid_limit» - 1 ≤ k .count → r ≡ retiredAt 3 [] (putLowered k q b s) → r ≡ retiredOf (raise (itemView x) b (view s))
+      pub raise-3 : capacityFor (s .«dcid_limit») ≤ k .count → r ≡ retiredAt 3 [] (putLowered k q b s) → r ≡ retiredOf (raise (itemView x) b (view s))
       raise-3 c y = y ∙ ap (retiredAt 3 []) lowered-is ∙ sym (ap retiredOf (on ∙ append-full (itemView x) (pairs (keep (below b) (view s .dcids))) (lowered b (view s)) (omega (arith, c, count-k))))
 
-      pub raise-0 : k .count < 2 * s .«dcid_limit» - 1 → (t : Table) → t ≡ tableOf (live k ++ (x ∷ [])) → r ≡ retiredAt 0 (picked T.pairOf (T.lowOnPath b) l) (putLowered t q b s) → r ≡ retiredOf (raise (itemView x) b (view s))
+      pub raise-0 : k .count < capacityFor (s .«dcid_limit») → (t : Table) → t ≡ tableOf (live k ++ (x ∷ [])) → r ≡ retiredAt 0 (picked T.pairOf (T.lowOnPath b) l) (putLowered t q b s) → r ≡ retiredOf (raise (itemView x) b (view s))
       raise-0 c t et y =
           let a : List Item = keep (from b) (view s .dcids) in
           let e : t ≡ tableOf (map itemOf (a ++ (itemView x ∷ []))) = et ∙ ap (λ (m : List I.Item). tableOf (m ++ (x ∷ []))) (live-of (keep (T.atLeast b) l) k ek) ∙ ap tableOf (sym (snoc-back a (keep (T.atLeast b) l) (itemView x) x kept-back (item-back x f))) in

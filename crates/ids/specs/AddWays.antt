@@ -1,5 +1,5 @@
 -- Every way through add_dcid on views: what the definition gives, by what its tests say.
-use Prim.Native.Nat.{ℕ, _-_, _*_, _≤_, _<_}
+use Prim.Native.Nat.{ℕ, _*_, _≤_, _<_}
 use mathlib.Core.Path.{_≡_, ap, ap₂, _∙_}
 use mathlib.Core.List.{List, [], _∷_, _++_, map}
 use mathlib.Core.Bool.{Bool, not, cond, _&&_}
@@ -7,7 +7,7 @@ use lib.Dec.{ltb}
 use lib.ListN.{length}
 use borrow.Author.Tests.{lt-ltb, le-ltb, le-leb, lt-leb}
 use Rattle.lists.specs.Defs.{has, keep}
-use Rattle.values.specs.Limits.{queueSlots, retireFactor}
+use Rattle.values.specs.Limits.{queueSlots, retireFactor, capacityFor}
 use Rattle.values.specs.declared.used.UsedSeq.{UsedSeq}
 use Rattle.ids_rules.specs.Values.{Item, seqOf, below}
 use Rattle.ids_rules.specs.View.{View, Out, refused, accepted, Retired}
@@ -34,11 +34,11 @@ module _ (s : ℕ) (v : View) where
     late-ok k = late-room ∙ ap (λ (b : Bool). cond b (refused 4 later) (accepted (Retired []) later)) (le-ltb (retireFactor * v .dcidLimit) (length (v .dcidsToRetire ++ (s ∷ []))) k)
 
 module _ (x : Item) (l : List UsedSeq) (v : View) where
-  pub append-full : 2 * v .dcidLimit - 1 ≤ length (v .dcids) → append x l v ≡ refused 3 v
-  append-full h = ap (λ (b : Bool). cond b (refused 3 v) (accepted (Retired l) (withDcids (v .dcids ++ (x ∷ [])) v))) (le-leb (2 * v .dcidLimit - 1) (length (v .dcids)) h)
+  pub append-full : capacityFor (v .dcidLimit) ≤ length (v .dcids) → append x l v ≡ refused 3 v
+  append-full h = ap (λ (b : Bool). cond b (refused 3 v) (accepted (Retired l) (withDcids (v .dcids ++ (x ∷ [])) v))) (le-leb (capacityFor (v .dcidLimit)) (length (v .dcids)) h)
 
-  pub append-ok : length (v .dcids) < 2 * v .dcidLimit - 1 → append x l v ≡ accepted (Retired l) (withDcids (v .dcids ++ (x ∷ [])) v)
-  append-ok h = ap (λ (b : Bool). cond b (refused 3 v) (accepted (Retired l) (withDcids (v .dcids ++ (x ∷ [])) v))) (lt-leb (2 * v .dcidLimit - 1) (length (v .dcids)) h)
+  pub append-ok : length (v .dcids) < capacityFor (v .dcidLimit) → append x l v ≡ accepted (Retired l) (withDcids (v .dcids ++ (x ∷ [])) v)
+  append-ok h = ap (λ (b : Bool). cond b (refused 3 v) (accepted (Retired l) (withDcids (v .dcids ++ (x ∷ [])) v))) (lt-leb (capacityFor (v .dcidLimit)) (length (v .dcids)) h)
 
 -- ---- a Retire Prior To above the largest
 

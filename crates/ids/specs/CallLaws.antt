@@ -10,11 +10,12 @@ use Rattle.values.specs.Cid.{idFormed}
 use Rattle.values.specs.Token.{tokenFormed}
 use Rattle.values.specs.declared.token.Token.{Token}
 use Rattle.values.specs.declared.cid.ConnectionId.{ConnectionId}
+use Rattle.values.specs.Answers.{countedAt}
 use Rattle.ids_rules.specs.Values.{unused}
 use Rattle.ids_rules.specs.Calls.{reply, UnusedDcids}
 use Rattle.ids_state.specs.Formed.{wellFormed}
 use Rattle.ids_state.specs.declared.state.Ids.{Ids}
-use Rattle.ids.specs.Reading.{view, pathFormed, countedAt, countedOf, checked}
+use Rattle.ids.specs.Reading.{view, pathFormed, countedOf, checked}
 use Rattle.ids.specs.ReadingLaws.{advertise-long, retire-long}
 use Rattle.ids.specs.Carry.{empty-is}
 

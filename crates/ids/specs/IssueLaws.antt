@@ -29,7 +29,7 @@ use Rattle.tables.specs.declared.items.Table.{Table}
 use Rattle.ids_state.specs.Formed.{wellFormed}
 use Rattle.ids_state.specs.Laws.{facts}
 use Rattle.ids_state.specs.declared.state.Ids.{Ids}
-use Rattle.ids.specs.Reading.{itemView, view, itemOf, idsOf, pathFormed, numberedAt, issuedAt, freedAt, issuedOf, freedOf}
+use Rattle.ids.specs.Reading.{itemView, view, itemOf, idsOf, pathFormed, issuedAt, freedAt, issuedOf, freedOf}
 use Rattle.ids.specs.ReadingLaws.{token-back, path-back, present-given, item-parts, snoc-back, source-well, scids-back, scids-long, advertise-long, view-is}
 use Rattle.ids.specs.Carry.{first-at, first-none, any-at, any-none, keep-view, without-back, all-at}
 use Rattle.ids.specs.Puts.{putSource, putRpt, putIssued, putSourceRpt}
@@ -41,6 +41,7 @@ use Rattle.tables.specs.declared.items.Item as I
 use Rattle.tables.specs.Table as T
 use Rattle.ids_state.specs.Formed as F
 use Rattle.lists.specs.Defs as D
+use Rattle.values.specs.Answers.{numberedAt}
 
 -- ---- the lowest sequence
 

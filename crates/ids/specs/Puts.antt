@@ -46,6 +46,6 @@ abbrev pub putSourceRpt : Table → ℕ → Ids → Ids
 putSourceRpt t r s = record { scids = t; dcids = s .dcids; «scid_capacity» = s .«scid_capacity»; «dcid_limit» = s .«dcid_limit»; «scid_limit» = s .«scid_limit»; «zero_length_scid» = s .«zero_length_scid»; «zero_length_dcid» = s .«zero_length_dcid»; «next_scid_seq» = s .«next_scid_seq»; «retire_prior_to» = r; «largest_peer_retire_prior_to» = s .«largest_peer_retire_prior_to»; «scids_to_advertise» = s .«scids_to_advertise»; «dcids_to_retire» = s .«dcids_to_retire» }
 
 -- the fields that a new destination ID is held against
---| putHeld (t : Table) (q : Queue) (b d : ℕ) (s : Ids) { dcids = t; «dcids_to_retire» = q; «largest_peer_retire_prior_to» = b; «dcid_limit» = d }
-abbrev pub putHeld : Table → Queue → ℕ → ℕ → Ids → Ids
-putHeld t q b d s = record { scids = s .scids; dcids = t; «scid_capacity» = s .«scid_capacity»; «dcid_limit» = d; «scid_limit» = s .«scid_limit»; «zero_length_scid» = s .«zero_length_scid»; «zero_length_dcid» = s .«zero_length_dcid»; «next_scid_seq» = s .«next_scid_seq»; «retire_prior_to» = s .«retire_prior_to»; «largest_peer_retire_prior_to» = b; «scids_to_advertise» = s .«scids_to_advertise»; «dcids_to_retire» = q }
+--| putGiven (t : Table) (q : Queue) (b d : ℕ) (s : Ids) { dcids = t; «dcids_to_retire» = q; «largest_peer_retire_prior_to» = b; «dcid_limit» = d }
+abbrev pub putGiven : Table → Queue → ℕ → ℕ → Ids → Ids
+putGiven t q b d s = record { scids = s .scids; dcids = t; «scid_capacity» = s .«scid_capacity»; «dcid_limit» = d; «scid_limit» = s .«scid_limit»; «zero_length_scid» = s .«zero_length_scid»; «zero_length_dcid» = s .«zero_length_dcid»; «next_scid_seq» = s .«next_scid_seq»; «retire_prior_to» = s .«retire_prior_to»; «largest_peer_retire_prior_to» = b; «scids_to_advertise» = s .«scids_to_advertise»; «dcids_to_retire» = q }

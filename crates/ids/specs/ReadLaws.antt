@@ -11,6 +11,7 @@ use Rattle.lists.specs.Defs.{maybe, given, all, first, firstWith, front, at}
 use Rattle.lists.specs.Search.{first-below}
 use Rattle.values.specs.declared.answers.Numbered.{Numbered}
 use Rattle.values.specs.declared.cid.ConnectionId.{ConnectionId}
+use Rattle.values.specs.Answers.{numberedAt}
 use Rattle.ids_rules.specs.Values.{Item, hasSeq, hasCid}
 use Rattle.ids_rules.specs.View.{Nothing, Whole, Maybe, Found, Frame}
 use Rattle.ids_rules.specs.Calls.{says, says2}
@@ -18,7 +19,7 @@ use Rattle.tables.specs.Table.{zeroItem, live, entries, TableWell, QueueWell}
 use Rattle.tables.specs.Laws.{entries-long, live-long, item-at}
 use Rattle.tables.specs.declared.sequences.Queue.{Queue}
 use Rattle.tables.specs.declared.items.Table.{Table}
-use Rattle.ids.specs.Reading.{itemView, itemOf, numberedAt, itemAt, foundAt, frameAt, itemAnswerOf, foundAnswerOf, frameOf}
+use Rattle.ids.specs.Reading.{itemView, itemOf, itemAt, foundAt, frameAt, itemAnswerOf, foundAnswerOf, frameOf}
 use Rattle.ids.specs.ReadingLaws.{path-back, present-given, item-parts, item-back}
 use Rattle.ids.specs.Carry.{first-at, first-none, at-in, at-past, front-some, front-none, all-at}
 use Rattle.ids.specs.declared.answers.ItemAnswer.{ItemAnswer}

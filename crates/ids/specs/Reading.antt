@@ -14,6 +14,7 @@ use Rattle.values.specs.declared.answers.Counted.{Counted}
 use Rattle.values.specs.declared.answers.Numbered.{Numbered}
 use Rattle.values.specs.declared.cid.ConnectionId.{ConnectionId}
 use Rattle.values.specs.declared.used.UsedSeq.{UsedSeq}
+use Rattle.values.specs.Answers.{countedAt, flaggedAt, numberedAt}
 use Rattle.ids_rules.specs.Values.{Item}
 use Rattle.ids_rules.specs.View.{View, Answer, Out, refused, Nothing, Issued, Freed, Retired, Whole, Maybe, Found, Number, Perhaps, Flag, Frame}
 use Rattle.ids_rules.specs.Steps.{zeroView, freshCall}
@@ -121,15 +122,6 @@ partsOf (Flag b) = partsAt 0 none b [] none none none
 partsOf (Frame s r c t) = partsAt 0 none false [] none none (some (record { seq = s; retirePriorTo = r; cid = c; token = t }))
 
 -- ---- the answers of calls that read, by refusal and part; beside a refusal every part is nothing
-
-abbrev pub countedAt : ℕ → ℕ → Counted
-countedAt refusal n = record { refusal = refusal; number = n }
-
-abbrev pub flaggedAt : ℕ → Bool → Flagged
-flaggedAt refusal b = record { refusal = refusal; flag = b }
-
-abbrev pub numberedAt : ℕ → Option ℕ → Numbered
-numberedAt refusal o = record { refusal = refusal; present = present o; number = pathOf o }
 
 abbrev pub itemAt : ℕ → Option Item → ItemAnswer
 itemAt refusal o = record { refusal = refusal; present = present o; item = maybe o zeroItem itemOf }

@@ -21,6 +21,7 @@ use Rattle.values.specs.declared.answers.Flagged.{Flagged}
 use Rattle.values.specs.declared.answers.Counted.{Counted}
 use Rattle.values.specs.declared.answers.Numbered.{Numbered}
 use Rattle.values.specs.declared.cid.ConnectionId.{ConnectionId}
+use Rattle.values.specs.Answers.{countedAt, flaggedAt, numberedAt}
 use Rattle.ids_rules.specs.View.{Out}
 use Rattle.ids_rules.specs.Steps.{freshFormed}
 use Rattle.ids_rules.specs.Calls.{Query, GetScid, GetDcid, FindScid, UnusedScids, UnusedDcids, LowestUnusedDcidSeq, NextScidToAdvertise, NextDcidToRetire, CreateNewConnectionIdFrame, NeedSendCidControlFrames, ZeroLengthScid, ZeroLengthDcid, ScidCount, ScidAt, DcidCount, DcidAt}
@@ -29,7 +30,7 @@ use Rattle.ids_rules.specs.Promise.{Starts, counted, out, sequences}
 use Rattle.ids_state.specs.Formed.{wellFormed}
 use Rattle.ids_state.specs.declared.state.Ids.{Ids}
 use Rattle.ids.specs.Reading.{view, pathFormed, doneOf, issuedOf, freedOf, retiredOf, countedOf, flaggedOf, numberedOf, itemAnswerOf, foundAnswerOf, frameOf}
-use Rattle.ids.specs.Reading.{doneAt, issuedAt, freedAt, retiredAt, countedAt, flaggedAt, numberedAt, itemAt, foundAt, frameAt}
+use Rattle.ids.specs.Reading.{doneAt, issuedAt, freedAt, retiredAt, itemAt, foundAt, frameAt}
 use Rattle.ids.specs.Reading.{doneCall, issuedCall, freedCall, retiredCall, countedCall, flaggedCall, numberedCall, itemCall, foundCall, frameCall, freshIds}
 use Rattle.ids.specs.declared.answers.ItemAnswer.{ItemAnswer}
 use Rattle.ids.specs.declared.answers.FoundAnswer.{FoundAnswer}
@@ -354,13 +355,13 @@ retires (Reads q) = none
 abbrev pub logged : List ℕ → Event → List ℕ
 logged l e = maybe (retires (e .call)) (l ++ issuedIn (e .returned)) (λ n. cond (eqb (refusalIn (e .returned)) 1) l (out n l))
 
-abbrev pub live : List ℕ → List Event → List ℕ
-live l [] = l
-live l (e ∷ es) = live (logged l e) es
+abbrev pub remaining : List ℕ → List Event → List ℕ
+remaining l [] = l
+remaining l (e ∷ es) = remaining (logged l e) es
 
 -- the table holds sequence 0 and those issued, less those taken out: as the code's own answers say
 abbrev pub TableIsHistory : Type 0
-TableIsHistory = (s : Ids) → Started s → (cs : List CodeCall) → sourceSeqs (calls s cs) ≡ live (0 ∷ []) (history s cs)
+TableIsHistory = (s : Ids) → Started s → (cs : List CodeCall) → sourceSeqs (calls s cs) ≡ remaining (0 ∷ []) (history s cs)
 
 -- a sequence that was there, 0 or issued, and is out after cs, is out after any more calls ds
 abbrev pub NeverReturns : Type 0
@@ -369,7 +370,7 @@ NeverReturns = (s : Ids) → Started s → (cs ds : List CodeCall) (n : ℕ) →
 
 -- ---- all of it
 
-pub record Held : Type 0 where
+pub record Promises : Type 0 where
   pub applies : Applies
   pub complete : Complete
   pub malformed : Malformed

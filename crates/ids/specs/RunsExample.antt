@@ -15,7 +15,7 @@ use Rattle.ids_rules.specs.Calls as C
 use Rattle.ids_state.specs.declared.state.Ids.{Ids}
 use Rattle.ids_rules.specs.Promise.{counted}
 use Rattle.ids.specs.Reading.{view, freshIds}
-use Rattle.ids.specs.Runs.{CodeCall, SetInitialDcid, SetScidLimit, AddScid, RetireScid, AddDcid, MarkScidUsed, MarkDcidUsed, MarkScidToAdvertise, MarkDcidToRetire, Reads, Started, started, Event, refusalIn, calls, issues, history, live, sourceSeqs}
+use Rattle.ids.specs.Runs.{CodeCall, SetInitialDcid, SetScidLimit, AddScid, RetireScid, AddDcid, MarkScidUsed, MarkDcidUsed, MarkScidToAdvertise, MarkDcidToRetire, Reads, Started, started, Event, refusalIn, calls, issues, history, remaining, sourceSeqs}
 use Rattle.ids.specs.RunsProof.{without-gap, table-is-history}
 
 abbrev cid : ℕ → ConnectionId
@@ -58,12 +58,12 @@ answered = refl
 pub issued : issues state told ≡ 1 ∷ 2 ∷ 3 ∷ 4 ∷ []
 issued = refl
 
-pub left : (live (0 ∷ []) (history state told) ≡ 1 ∷ 3 ∷ 4 ∷ []) × (sourceSeqs (calls state told) ≡ 1 ∷ 3 ∷ 4 ∷ [])
+pub left : (remaining (0 ∷ []) (history state told) ≡ 1 ∷ 3 ∷ 4 ∷ []) × (sourceSeqs (calls state told) ≡ 1 ∷ 3 ∷ 4 ∷ [])
 left = (refl, refl)
 
 pub queues : (view (calls state told) .scidsToAdvertise ≡ 2 ∷ 3 ∷ 4 ∷ []) × (view (calls state told) .dcidsToRetire ≡ 0 ∷ 9 ∷ [])
 queues = (refl, refl)
 
 -- as the promises say
-pub concluded : (issues state told ≡ counted 1 4) × (sourceSeqs (calls state told) ≡ live (0 ∷ []) (history state told))
+pub concluded : (issues state told ≡ counted 1 4) × (sourceSeqs (calls state told) ≡ remaining (0 ∷ []) (history state told))
 concluded = (without-gap state begins told, table-is-history state begins told)

@@ -8,33 +8,35 @@ use native.Mathlib.Omega.{arith}
 use lib.Dec.{eqb, leb}
 use lib.ListN.{length}
 use borrow.Author.Tests.{ne-eqb}
-use Rattle.lists.specs.Defs.{given, present, maybe, first, any, keep, has}
+use Rattle.lists.specs.Defs.{given, present, maybe, any, keep, has}
 use Rattle.lists.specs.Bools.{and-both}
 use Rattle.values.specs.Limits.{queueSlots}
 use Rattle.values.specs.Cid.{idFormed}
 use Rattle.values.specs.Token.{tokenFormed, tokenView}
 use Rattle.values.specs.declared.cid.ConnectionId.{ConnectionId}
-use Rattle.ids_rules.specs.Values.{Item, hasSeq, hasCid}
+use Rattle.values.specs.Answers.{countedAt, flaggedAt, numberedAt}
+use Rattle.ids_rules.specs.Values.{Item, hasSeq}
 use Rattle.ids_rules.specs.View.{View, Out, Answer, Nothing, refused, accepted}
 use Rattle.ids_rules.specs.Steps.{fresh, zeroView, freshFormed, freshCall}
 use Rattle.ids_rules.specs.Well.{well}
 use Rattle.ids_rules.specs.Calls.{Query, GetScid, GetDcid, FindScid, UnusedScids, UnusedDcids, LowestUnusedDcidSeq, NextScidToAdvertise, NextDcidToRetire, CreateNewConnectionIdFrame, NeedSendCidControlFrames, ZeroLengthScid, ZeroLengthDcid, ScidCount, ScidAt, DcidCount, DcidAt}
-use Rattle.ids_rules.specs.Calls.{Call, Reply, reply, queryFormed, callFormed, step, apply, after, run}
+use Rattle.ids_rules.specs.Calls.{Call, queryFormed, callFormed, step, apply, after, run}
 use Rattle.ids_rules.specs.Ends.{AddScidEnds, refuses, raises, issues as issues-one, RetireScidEnds, unissued, only, absent, out, frees, AddDcidEnds, rejects, again, late4, late, lowers, renews, adds, add-scid-ends, retire-scid-ends, add-dcid-ends}
-use Rattle.ids_rules.specs.Laws.{decided, optioned}
+use Rattle.ids_rules.specs.Laws.{decided}
+use Rattle.ids_rules.specs.Once.{reply-quiet}
 use Rattle.ids_rules.specs.Promise.{Starts, starts, issuedBy, counted, sequences}
 use Rattle.ids_rules.specs.Promised.{promised}
 use Rattle.ids_state.specs.Formed.{wellFormed}
 use Rattle.ids_state.specs.declared.state.Ids.{Ids}
 use Rattle.ids.specs.Reading.{view, idsOf, tokenOf, pathOf, partsOf, Sought, Fields, pathFormed, foundAt, frameAt, foundAnswerOf, frameOf, doneOf, issuedOf, freedOf, retiredOf, countedOf, flaggedOf, numberedOf, itemAnswerOf, checked}
-use Rattle.ids.specs.Reading.{countedAt, flaggedAt, numberedAt, itemAt, doneCall, issuedCall, freedCall, retiredCall}
+use Rattle.ids.specs.Reading.{itemAt, doneCall, issuedCall, freedCall, retiredCall}
 use Rattle.ids.specs.ReadingLaws.{view-of, view-is}
 use Rattle.ids.specs.WellLaws.{view-well, state-well, step-applies}
 use Rattle.ids.specs.Runs.{CodeCall, SetInitialDcid, SetScidLimit, AddScid, RetireScid, AddDcid, MarkScidUsed, MarkDcidUsed, MarkScidToAdvertise, MarkDcidToRetire, Reads, started}
 use Rattle.ids.specs.Runs.{Done, Issued, Freed, Retired, ACount, AFlag, ANumber, AnItem, AFound, AFrame}
 use Rattle.ids.specs.Runs.{Shape, ADone, AnIssue, AFreed, ARetired, Counts, Flags, Numbers, Items, Finds, Frames, Result}
-use Rattle.ids.specs.Runs.{argsFormed, asked, result, stateIn, refusalIn, made, refusal, calls, viewCall, viewCalls, askedShape, shape, replied, shaped, resultAs, refusedAt, issuedIn, issues, history, retires, logged, live}
-use Rattle.ids.specs.Runs.{Applies, Published, Complete, Malformed, OnlyRefuses, LeavesNothing, KeepsWell, FreshOne, FreshWell, RunsWell, NeverOne, IsRun, IsStart, WithoutGap, TableIsHistory, NeverReturns, Held}
+use Rattle.ids.specs.Runs.{argsFormed, asked, result, stateIn, refusalIn, made, refusal, calls, viewCall, viewCalls, askedShape, shape, replied, shaped, resultAs, refusedAt, issuedIn, issues, history, retires, logged, remaining}
+use Rattle.ids.specs.Runs.{Applies, Published, Complete, Malformed, OnlyRefuses, LeavesNothing, KeepsWell, FreshOne, FreshWell, RunsWell, NeverOne, IsRun, IsStart, WithoutGap, TableIsHistory, NeverReturns, Promises}
 use Rattle.ids_rules.specs.Calls as C
 use Rattle.ids_rules.specs.Promise as P
 
@@ -351,26 +353,6 @@ never-one s f cs c =
 abbrev Quiet : Out → Type 0
 Quiet o = issuedBy (o .answer) ≡ []
 
-reply-quiet : (v : View) (q : Query) → issuedBy (reply v q .answer) ≡ []
-reply-quiet v (GetScid s) = optioned (λ (r : Reply). issuedBy (r .answer) ≡ []) (first (hasSeq s) (v .scids)) (λ e. refl) (λ x e. refl)
-reply-quiet v (GetDcid s) = optioned (λ (r : Reply). issuedBy (r .answer) ≡ []) (first (hasSeq s) (v .dcids)) (λ e. refl) (λ x e. refl)
-reply-quiet v (FindScid c) = optioned (λ (a : Answer). issuedBy a ≡ []) (first (hasCid c) (v .scids)) (λ e. refl) (λ x e. refl)
-reply-quiet v UnusedScids = refl
-reply-quiet v UnusedDcids = refl
-reply-quiet v LowestUnusedDcidSeq = refl
-reply-quiet v NextScidToAdvertise = refl
-reply-quiet v NextDcidToRetire = refl
-reply-quiet v (CreateNewConnectionIdFrame s) =
-    optioned (λ (r : Reply). issuedBy (r .answer) ≡ []) (first (hasSeq s) (v .scids)) (λ e. refl)
-    (λ x e. optioned (λ (r : Reply). issuedBy (r .answer) ≡ []) (x .token) (λ e. refl) (λ t e. refl))
-reply-quiet v NeedSendCidControlFrames = refl
-reply-quiet v ZeroLengthScid = refl
-reply-quiet v ZeroLengthDcid = refl
-reply-quiet v ScidCount = refl
-reply-quiet v (ScidAt i) = refl
-reply-quiet v DcidCount = refl
-reply-quiet v (DcidAt i) = refl
-
 retire-quiet : {s : ℕ} {packet : ConnectionId} {v : View} {o : Out} → RetireScidEnds s packet v o → Quiet o
 retire-quiet (unissued k) = refl
 retire-quiet (only e) = refl
@@ -468,27 +450,27 @@ kept-none : (l : List ℕ) (o : Option ℕ) → keptOf l o [] 1 ≡ l
 kept-none l none = append-nil l
 kept-none l (some s) = refl
 
-pub live-is : (s : Ids) (cs : List CodeCall) (l : List ℕ) → wellFormed s ≡ true → live l (history s cs) ≡ P.live l (P.history (view s) (viewCalls cs))
-live-is s [] l w = refl
-live-is s (c ∷ cs) l w = live-is (made s c) cs (logged l (record { call = c; returned = result s c })) (keeps-well s c w) ∙ test (argsFormed c) refl
+pub remaining-is : (s : Ids) (cs : List CodeCall) (l : List ℕ) → wellFormed s ≡ true → remaining l (history s cs) ≡ P.remaining l (P.history (view s) (viewCalls cs))
+remaining-is s [] l w = refl
+remaining-is s (c ∷ cs) l w = remaining-is (made s c) cs (logged l (record { call = c; returned = result s c })) (keeps-well s c w) ∙ test (argsFormed c) refl
   where
-    test : (b : Bool) → argsFormed c ≡ b → P.live (logged l (record { call = c; returned = result s c })) (P.history (view (made s c)) (viewCalls cs))
-        ≡ P.live l (P.history (view s) (map viewCall (cond b (c ∷ keep argsFormed cs) (keep argsFormed cs))))
+    test : (b : Bool) → argsFormed c ≡ b → P.remaining (logged l (record { call = c; returned = result s c })) (P.history (view (made s c)) (viewCalls cs))
+        ≡ P.remaining l (P.history (view s) (map viewCall (cond b (c ∷ keep argsFormed cs) (keep argsFormed cs))))
     test true e =
         let o : Out = apply (view s) (viewCall c) in
-        ap₂ (λ (m : List ℕ) (v : View). P.live m (P.history v (viewCalls cs)))
+        ap₂ (λ (m : List ℕ) (v : View). P.remaining m (P.history v (viewCalls cs)))
         (ap₂ (λ (i : List ℕ) (n : ℕ). keptOf l (retires c) i n) (issued-is s w c e) (refusal-is s w c e)
         ∙ ap (λ (r : Option ℕ). keptOf l r (issuedBy (o .answer)) (o .refusal)) (sym (retires-is c)))
         (made-after s w c e)
     test false e =
-        ap₂ (λ (m : List ℕ) (t : Ids). P.live m (P.history (view t) (viewCalls cs)))
+        ap₂ (λ (m : List ℕ) (t : Ids). P.remaining m (P.history (view t) (viewCalls cs)))
         (ap₂ (λ (i : List ℕ) (n : ℕ). keptOf l (retires c) i n) (no-issue s w c e) (one-refusal s c (and-no s w c e)) ∙ kept-none l (retires c))
         (one-made s c (and-no s w c e))
 
 pub table-is-history : TableIsHistory
 table-is-history s f cs =
     let w = fresh-well s f in
-    ap sequences (is-run s cs w) ∙ promised .tableIsHistory (view s) (is-start s f) (viewCalls cs) ∙ sym (live-is s cs (0 ∷ []) w)
+    ap sequences (is-run s cs w) ∙ promised .tableIsHistory (view s) (is-start s f) (viewCalls cs) ∙ sym (remaining-is s cs (0 ∷ []) w)
 
 more : (cs ds : List CodeCall) → viewCalls (cs ++ ds) ≡ viewCalls cs ++ viewCalls ds
 more [] ds = refl
@@ -509,7 +491,7 @@ never-returns s f cs ds n i o =
 
 -- ---- all of it
 
-pub held : Held
+pub held : Promises
 held = record {
   applies = applies;
   complete = complete;

@@ -1,11 +1,11 @@
 -- The first state, the first destination ID and the source limit, as the code makes them.
-use Prim.Native.Nat.{ℕ, _-_, _*_, min, max}
+use Prim.Native.Nat.{ℕ, min, max}
 use mathlib.Core.Path.{_≡_, refl, sym, ap, ap₂, _∙_}
 use mathlib.Core.List.{[], _∷_, map}
 use mathlib.Core.Bool.{Bool, true, false, cond, _&&_}
 use Rattle.lists.specs.Defs.{given}
 use Rattle.lists.specs.Bools.{and-both}
-use Rattle.values.specs.Limits.{maxCidsCount, minScidLimit}
+use Rattle.values.specs.Limits.{maxCidsCount, minScidLimit, capacityFor}
 use Rattle.values.specs.Cid.{emptyId}
 use Rattle.values.specs.Token.{tokenFormed, tokenView}
 use Rattle.values.specs.declared.token.Token.{Token}
@@ -30,10 +30,10 @@ pub initial-0 : (s : Ids) → wellFormed s ≡ true → (cid : ConnectionId) (to
     → doneAt 0 (putInitial t (emptyId cid) s) ≡ doneOf (setInitialDcid cid (tokenView token) (given has path) (view s))
 initial-0 s w cid token has path t e = ap₂ (λ (u : Table) (v : Ids). doneAt 0 (putInitial u (emptyId cid) v)) e (sym (view-is s w))
 
-pub limit-0 : (s : Ids) → wellFormed s ≡ true → (n l c : ℕ) → l ≡ max minScidLimit (min n maxCidsCount) → c ≡ max (s .«scid_capacity») (2 * l - 1) → doneAt 0 (putLimit l c s) ≡ doneOf (setScidLimit n (view s))
+pub limit-0 : (s : Ids) → wellFormed s ≡ true → (n l c : ℕ) → l ≡ max minScidLimit (min n maxCidsCount) → c ≡ max (s .«scid_capacity») (capacityFor l) → doneAt 0 (putLimit l c s) ≡ doneOf (setScidLimit n (view s))
 limit-0 s w n l c e q =
     ap₂ (λ (k : ℕ) (u : Ids). doneAt 0 (putLimit l k u)) q (sym (view-is s w))
-    ∙ ap (λ (k : ℕ). doneAt 0 (putLimit k (max (s .«scid_capacity») (2 * k - 1)) (idsOf (view s)))) e
+    ∙ ap (λ (k : ℕ). doneAt 0 (putLimit k (max (s .«scid_capacity») (capacityFor k)) (idsOf (view s)))) e
 
 abbrev freshAt : Bool → Bool → Out → Out
 freshAt t f o = cond t (cond f o (refused 1 zeroView)) (refused 1 zeroView)

@@ -12,12 +12,12 @@ use borrow.Author.Tests.{eq-eqb, lt-ltb, le-leb, leb-true, ltb-true}
 use Rattle.lists.specs.Defs.{present, every, nought, all, any, past, pairwise, padded}
 use Rattle.lists.specs.Bools.{and-both, conj, Each, conj-each}
 use Rattle.lists.specs.Held.{length-padded, take-padded}
-use Rattle.values.specs.Limits.{maxDcidLimit, maxCidsCount, minScidLimit, tableSlots, queueSlots, maxSequence}
+use Rattle.values.specs.Limits.{maxDcidLimit, maxCidsCount, minScidLimit, tableSlots, queueSlots, maxSequence, capacityFor}
 use Rattle.values.specs.Cid.{idFormed, sameId}
 use Rattle.values.specs.Token.{tokenFormed}
 use Rattle.ids_rules.specs.Values.{Item, clashes, itemFormed}
-use Rattle.ids_rules.specs.View.{View, dcap, refused}
-use Rattle.ids_rules.specs.Well.{rising, distinct, limits, source, destination, queues, well}
+use Rattle.ids_rules.specs.View.{View, refused}
+use Rattle.ids_rules.specs.Well.{risingWithin, distinct, limits, source, destination, queues, well}
 use Rattle.ids_rules.specs.Calls.{Call, callFormed, step, apply}
 use Rattle.tables.specs.Table.{zeroItem, live, tableOf}
 use Rattle.ids_state.specs.Formed.{isZero, apart, sourcesFormed, destinationsFormed, bounded, wellFormed}
@@ -50,14 +50,14 @@ items-well : (l : List I.Item) → all F.itemFormed l ≡ true → all itemForme
 items-well [] e = refl
 items-well (x ∷ l) e = let w = and-both (F.itemFormed x) (all F.itemFormed l) e in both (item-well x (w .0)) (items-well l (w .1))
 
-rise : (x n : ℕ) (l : List I.Item) → D.after x (map T.seqOf l ++ (n ∷ [])) ≡ true → rising (x + 1) n (map itemView l) ≡ true
+rise : (x n : ℕ) (l : List I.Item) → D.after x (map T.seqOf l ++ (n ∷ [])) ≡ true → risingWithin (x + 1) n (map itemView l) ≡ true
 rise x n [] e = let h = ltb-true x n (and-both (ltb x n) true e .0) in le-leb (x + 1) n (omega arith)
 rise x n (y ∷ l) e =
     let w = and-both (ltb x (y .seq)) (D.after (y .seq) (map T.seqOf l ++ (n ∷ []))) e in
     let h = ltb-true x (y .seq) (w .0) in
     both (le-leb (x + 1) (y .seq) (omega arith)) (rise (y .seq) n l (w .1))
 
-rises : (n : ℕ) (l : List I.Item) → D.rising (map T.seqOf l ++ (n ∷ [])) ≡ true → rising 0 n (map itemView l) ≡ true
+rises : (n : ℕ) (l : List I.Item) → D.rising (map T.seqOf l ++ (n ∷ [])) ≡ true → risingWithin 0 n (map itemView l) ≡ true
 rises n [] e = le-leb 0 n (omega arith)
 rises n (x ∷ l) e = both (le-leb 0 (x .seq) (omega arith)) (rise (x .seq) n l e)
 
@@ -93,7 +93,7 @@ module _ (s : Ids) (w : wellFormed s ≡ true) where
       let m = length (v .dcids) in
       let limited = every-of (limits (v .dcidLimit) (v .scidLimit) (v .scidCapacity)) (le-leb _ _ (b .dcid-limit-least), (le-leb _ _ (b .dcid-limit-most), (le-leb _ _ (b .scid-limit-least), (le-leb _ _ (b .scid-limit-most), (eq-eqb _ _ (b .odd), (le-leb _ _ (b .capacity-least), (le-leb _ _ (b .capacity-most), 0))))))) in
       let sources = every-of (source (v .scidCapacity) (v .nextScidSeq) (v .retirePriorTo) (v .scids)) (le-leb 1 n (omega (arith, b .sources-some, scids-long s w)), (le-leb n (s .«scid_capacity») (omega (arith, b .sources-few, scids-long s w)), (le-leb _ _ (b .next-least), (le-leb _ _ (b .next-most), (le-leb _ _ (b .rpt-most), (rises (s .«next_scid_seq») (live (s .scids)) (f .rises), (items-well (live (s .scids)) (f .source-items), 0))))))) in
-      let destinations = every-of (destination (v .dcidLimit) (v .dcids)) (le-leb m (2 * s .«dcid_limit» - 1) (omega (arith, b .destinations-few, dcids-long s w)), (distincts (live (s .dcids)) (f .distinct), (items-well (live (s .dcids)) (f .destination-items), 0))) in
+      let destinations = every-of (destination (v .dcidLimit) (v .dcids)) (le-leb m (capacityFor (s .«dcid_limit»)) (omega (arith, b .destinations-few, dcids-long s w)), (distincts (live (s .dcids)) (f .distinct), (items-well (live (s .dcids)) (f .destination-items), 0))) in
       let queued = every-of (queues (v .scidsToAdvertise) (v .dcidsToRetire)) (le-leb (length (v .scidsToAdvertise)) queueSlots (omega (arith, b .advertised-few, advertise-long s w)), (le-leb (length (v .dcidsToRetire)) queueSlots (omega (arith, b .retired-few, retire-long s w)), 0)) in
       both (both (both limited sources) destinations) queued
 
@@ -124,14 +124,14 @@ items-of : (l : List Item) → all itemFormed l ≡ true → all F.itemFormed (m
 items-of [] e = refl
 items-of (x ∷ l) e = let w = and-both (itemFormed x) (all itemFormed l) e in both (item-of x (w .0)) (items-of l (w .1))
 
-rise-of : (x n : ℕ) (l : List Item) → rising (x + 1) n l ≡ true → D.after x (map T.seqOf (map itemOf l) ++ (n ∷ [])) ≡ true
+rise-of : (x n : ℕ) (l : List Item) → risingWithin (x + 1) n l ≡ true → D.after x (map T.seqOf (map itemOf l) ++ (n ∷ [])) ≡ true
 rise-of x n [] e = let h = leb-true (x + 1) n e in both (lt-ltb x n (omega arith)) refl
 rise-of x n (y ∷ l) e =
     let w = and-both (leb (x + 1) (y .seq)) _ e in
     let h = leb-true (x + 1) (y .seq) (w .0) in
     both (lt-ltb x (y .seq) (omega arith)) (rise-of (y .seq) n l (w .1))
 
-rises-of : (n : ℕ) (l : List Item) → rising 0 n l ≡ true → D.rising (map T.seqOf (map itemOf l) ++ (n ∷ [])) ≡ true
+rises-of : (n : ℕ) (l : List Item) → risingWithin 0 n l ≡ true → D.rising (map T.seqOf (map itemOf l) ++ (n ∷ [])) ≡ true
 rises-of n [] e = refl
 rises-of n (x ∷ l) e = rise-of (x .seq) n l (and-both (leb 0 (x .seq)) _ e .1)
 
@@ -198,12 +198,12 @@ module _ (v : View) (e : well v ≡ true) where
   few-scids = omega (arith, sl, leb-true (length (v .scids)) (v .scidCapacity) (so .1 .0), leb-true (v .scidCapacity) tableSlots (li .1 .1 .1 .1 .1 .1 .0))
 
   few-dcids : length (map itemOf (v .dcids)) < 2 * v .dcidLimit
-  few-dcids = omega (arith, dl, leb-true (length (v .dcids)) (dcap (v .dcidLimit)) (de .0), leb-true 1 (v .dcidLimit) (li .0))
+  few-dcids = omega (arith, dl, leb-true (length (v .dcids)) (capacityFor (v .dcidLimit)) (de .0), leb-true 1 (v .dcidLimit) (li .0))
 
   bounds-well : bounded (v .dcidLimit) (v .scidLimit) (v .scidCapacity) (length (map itemOf (v .scids))) (length (map itemOf (v .dcids))) (v .nextScidSeq) (v .retirePriorTo) (length (v .scidsToAdvertise)) (length (v .dcidsToRetire)) ≡ true
   bounds-well =
       conj-of (leb 1 (v .dcidLimit))
-      (leb (v .dcidLimit) maxDcidLimit ∷ leb minScidLimit (v .scidLimit) ∷ leb (v .scidLimit) maxCidsCount ∷ eqb (v .scidCapacity % 2) 1 ∷ leb (2 * v .scidLimit - 1) (v .scidCapacity) ∷ leb (v .scidCapacity) tableSlots
+      (leb (v .dcidLimit) maxDcidLimit ∷ leb minScidLimit (v .scidLimit) ∷ leb (v .scidLimit) maxCidsCount ∷ eqb (v .scidCapacity % 2) 1 ∷ leb (capacityFor (v .scidLimit)) (v .scidCapacity) ∷ leb (v .scidCapacity) tableSlots
       ∷ leb 1 (length (map itemOf (v .scids))) ∷ leb (length (map itemOf (v .scids))) (v .scidCapacity) ∷ ltb (length (map itemOf (v .dcids))) (2 * v .dcidLimit)
       ∷ leb 1 (v .nextScidSeq) ∷ leb (v .nextScidSeq) maxSequence ∷ leb (v .retirePriorTo) (v .nextScidSeq) ∷ leb (length (v .scidsToAdvertise)) queueSlots ∷ leb (length (v .dcidsToRetire)) queueSlots ∷ [])
       (li .0) (

@@ -8,7 +8,7 @@ ghost use Rattle.values.specs.Token.{tokenFormed, tokenView};
 ghost use Rattle.ids_rules.specs.Calls as C;
 ghost use Rattle.ids.specs.Reading.{doneCall, freedCall, issuedCall, pathFormed};
 ghost use Rattle.ids.specs.Puts.{putAdvertise, putDestination, putInitial, putIssued, putLimit, putRetire, putSource, putSourceRpt};
-ghost use Rattle.ids.specs.Acts.{Leaves};
+ghost use Rattle.ids.specs.Acts.{FreedLeaves, IssuedLeaves, Leaves};
 use crate::answers::FreedParts;
 use crate::answers::InitialOut;
 use crate::answers::IssuedParts;
@@ -33,7 +33,7 @@ pub fn set_initial_dcid_at(
     has_path: bool,
     path: u64,
 ) -> InitialOut
-    ensures { λ r. ⌜ Leaves (putInitial (r .dcids) (r .«zero_length_dcid») s) (doneCall s (idFormed cid && tokenFormed token && pathFormed «has_path» path) (C.SetInitialDcid cid (tokenView token) (given «has_path» path)) .ids) (r .answer) (doneCall s (idFormed cid && tokenFormed token && pathFormed «has_path» path) (C.SetInitialDcid cid (tokenView token) (given «has_path» path)) .answer) ⌝ }
+    ensures { λ r. ⌜ Leaves (putInitial (r .dcids) (r .«zero_length_dcid») s) (r .answer) (doneCall s (idFormed cid && tokenFormed token && pathFormed «has_path» path) (C.SetInitialDcid cid (tokenView token) (given «has_path» path))) ⌝ }
 {
     let f = ids_state::formed(s);
     let c = values::cid_formed(cid);
@@ -57,11 +57,11 @@ pub fn set_initial_dcid_at(
 
 // The most source IDs that the peer allows, clamped to 2..16.
 pub fn set_scid_limit_at(s: Ids, n: u64) -> LimitOut
-    ensures { λ r. ⌜ Leaves (putLimit (r .«scid_limit») (r .«scid_capacity») s) (doneCall s true (C.SetScidLimit n) .ids) (r .answer) (doneCall s true (C.SetScidLimit n) .answer) ⌝ }
+    ensures { λ r. ⌜ Leaves (putLimit (r .«scid_limit») (r .«scid_capacity») s) (r .answer) (doneCall s true (C.SetScidLimit n)) ⌝ }
 {
     if ids_state::formed(s) {
         let limit = starts::clamped(n);
-        let wide = (2 * limit - 1) as usize;
+        let wide = starts::capacity_for(limit) as usize;
         let capacity = starts::larger(s.scid_capacity, wide);
         return LimitOut {
             scid_limit: limit,
@@ -78,7 +78,7 @@ pub fn set_scid_limit_at(s: Ids, n: u64) -> LimitOut
 
 // The source item is used by the path.
 pub fn mark_scid_used_at(s: Ids, seq: u64, path: u64) -> TableOut
-    ensures { λ r. ⌜ Leaves (putSource (r .table) s) (doneCall s true (C.MarkScidUsed seq path) .ids) (r .answer) (doneCall s true (C.MarkScidUsed seq path) .answer) ⌝ }
+    ensures { λ r. ⌜ Leaves (putSource (r .table) s) (r .answer) (doneCall s true (C.MarkScidUsed seq path)) ⌝ }
 {
     let t = s.scids;
     if ids_state::formed(s) {
@@ -90,7 +90,7 @@ pub fn mark_scid_used_at(s: Ids, seq: u64, path: u64) -> TableOut
 
 // The destination item is used by the path.
 pub fn mark_dcid_used_at(s: Ids, seq: u64, path: u64) -> TableOut
-    ensures { λ r. ⌜ Leaves (putDestination (r .table) s) (doneCall s true (C.MarkDcidUsed seq path) .ids) (r .answer) (doneCall s true (C.MarkDcidUsed seq path) .answer) ⌝ }
+    ensures { λ r. ⌜ Leaves (putDestination (r .table) s) (r .answer) (doneCall s true (C.MarkDcidUsed seq path)) ⌝ }
 {
     let t = s.dcids;
     if ids_state::formed(s) {
@@ -110,7 +110,7 @@ pub fn add_scid_at(
     path: u64,
     retire_if_needed: bool,
 ) -> IssuedParts
-    ensures { λ r. ⌜ Leaves (putIssued (r .scids) (r .«scids_to_advertise») (r .«next_scid_seq») (r .«retire_prior_to») s) (issuedCall s (idFormed cid && tokenFormed token && pathFormed «has_path» path) (C.AddScid cid (tokenView token) advertise (given «has_path» path) «retire_if_needed») .ids) (r .answer) (issuedCall s (idFormed cid && tokenFormed token && pathFormed «has_path» path) (C.AddScid cid (tokenView token) advertise (given «has_path» path) «retire_if_needed») .answer) ⌝ }
+    ensures { λ r. ⌜ IssuedLeaves (putIssued (r .scids) (r .«scids_to_advertise») (r .«next_scid_seq») (r .«retire_prior_to») s) (r .answer) (issuedCall s (idFormed cid && tokenFormed token && pathFormed «has_path» path) (C.AddScid cid (tokenView token) advertise (given «has_path» path) «retire_if_needed»)) ⌝ }
 {
     let f = ids_state::formed(s);
     let c = values::cid_formed(cid);
@@ -125,7 +125,7 @@ pub fn add_scid_at(
 
 // A RETIRE_CONNECTION_ID frame: the answer is the path that used the ID.
 pub fn retire_scid_at(s: Ids, seq: u64, packet: ConnectionId) -> FreedParts
-    ensures { λ r. ⌜ Leaves (putSourceRpt (r .scids) (r .«retire_prior_to») s) (freedCall s (idFormed packet) (C.RetireScid seq packet) .ids) (r .answer) (freedCall s (idFormed packet) (C.RetireScid seq packet) .answer) ⌝ }
+    ensures { λ r. ⌜ FreedLeaves (putSourceRpt (r .scids) (r .«retire_prior_to») s) (r .answer) (freedCall s (idFormed packet) (C.RetireScid seq packet)) ⌝ }
 {
     let f = ids_state::formed(s);
     let c = values::cid_formed(packet);
@@ -138,7 +138,7 @@ pub fn retire_scid_at(s: Ids, seq: u64, packet: ConnectionId) -> FreedParts
 
 // The source sequence is to be announced, or no longer.
 pub fn mark_scid_to_advertise_at(s: Ids, seq: u64, on: bool) -> QueueOut
-    ensures { λ r. ⌜ Leaves (putAdvertise (r .queue) s) (doneCall s true (C.MarkScidToAdvertise seq on) .ids) (r .answer) (doneCall s true (C.MarkScidToAdvertise seq on) .answer) ⌝ }
+    ensures { λ r. ⌜ Leaves (putAdvertise (r .queue) s) (r .answer) (doneCall s true (C.MarkScidToAdvertise seq on)) ⌝ }
 {
     let q = s.scids_to_advertise;
     if ids_state::formed(s) {
@@ -150,7 +150,7 @@ pub fn mark_scid_to_advertise_at(s: Ids, seq: u64, on: bool) -> QueueOut
 
 // The destination sequence is to be retired, or no longer.
 pub fn mark_dcid_to_retire_at(s: Ids, seq: u64, on: bool) -> QueueOut
-    ensures { λ r. ⌜ Leaves (putRetire (r .queue) s) (doneCall s true (C.MarkDcidToRetire seq on) .ids) (r .answer) (doneCall s true (C.MarkDcidToRetire seq on) .answer) ⌝ }
+    ensures { λ r. ⌜ Leaves (putRetire (r .queue) s) (r .answer) (doneCall s true (C.MarkDcidToRetire seq on)) ⌝ }
 {
     let q = s.dcids_to_retire;
     if ids_state::formed(s) {

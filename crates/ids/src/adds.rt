@@ -7,9 +7,10 @@ ghost use Rattle.tables.specs.Table.{usedOf};
 ghost use Rattle.ids_state.specs.Formed.{itemFormed, wellFormed};
 ghost use Rattle.ids_rules.specs.Steps as S;
 ghost use Rattle.ids.specs.Reading.{itemView, retiredOf, view};
-ghost use Rattle.ids.specs.Acts.{Gives, Held, retiredIn, retireNone};
+ghost use Rattle.ids.specs.Acts.{Gives, FromState, retiredIn, retireNone};
 use crate::answers::RetiredAnswer;
 use crate::answers::RetiredParts;
+use crate::starts;
 use ids_state::Ids;
 use tables::Item;
 use tables::Queue;
@@ -47,7 +48,7 @@ fn no_pairs(d: Table, q: Queue, largest: u64, n: u8) -> RetiredParts
 
 // A sequence below the largest Retire Prior To is queued at once.
 fn late_step(t: Table, q: Queue, largest: u64, dcid_limit: u64, seq: u64) -> RetiredParts
-    requires { ⌜ Held t q largest «dcid_limit» ⌝ }
+    requires { ⌜ FromState t q largest «dcid_limit» ⌝ }
     ensures { λ r. ⌜ Gives t q largest «dcid_limit» r (S.queueLate seq) ⌝ }
 {
     if QUEUE_SLOTS <= q.count {
@@ -63,10 +64,10 @@ fn late_step(t: Table, q: Queue, largest: u64, dcid_limit: u64, seq: u64) -> Ret
 }
 
 fn append_step(t: Table, q: Queue, largest: u64, dcid_limit: u64, x: Item) -> RetiredParts
-    requires { ⌜ Held t q largest «dcid_limit» × (itemFormed x ≡ true) ⌝ }
+    requires { ⌜ FromState t q largest «dcid_limit» × (itemFormed x ≡ true) ⌝ }
     ensures { λ r. ⌜ Gives t q largest «dcid_limit» r (S.append (itemView x) []) ⌝ }
 {
-    let most = 2 * dcid_limit - 1;
+    let most = starts::capacity_for(dcid_limit);
     let n = t.count as u64;
     if most <= n {
         return no_pairs(t, q, largest, CONNECTION_ID_LIMIT_ERROR);
@@ -77,7 +78,7 @@ fn append_step(t: Table, q: Queue, largest: u64, dcid_limit: u64, x: Item) -> Re
 
 // A Retire Prior To above the largest: 6 is decided before anything moves.
 fn raise_step(t: Table, q: Queue, largest: u64, dcid_limit: u64, x: Item, b: u64) -> RetiredParts
-    requires { ⌜ Held t q largest «dcid_limit» × (itemFormed x ≡ true) ⌝ }
+    requires { ⌜ FromState t q largest «dcid_limit» × (itemFormed x ≡ true) ⌝ }
     ensures { λ r. ⌜ Gives t q largest «dcid_limit» r (S.raise (itemView x) b) ⌝ }
 {
     let kept = tables::keep_from(t, b);
@@ -92,7 +93,7 @@ fn raise_step(t: Table, q: Queue, largest: u64, dcid_limit: u64, x: Item, b: u64
     if most < n {
         return no_pairs(kept, moved, b, PROTOCOL_VIOLATION);
     }
-    let room = 2 * dcid_limit - 1;
+    let room = starts::capacity_for(dcid_limit);
     let k = kept.count as u64;
     if room <= k {
         return no_pairs(kept, moved, b, CONNECTION_ID_LIMIT_ERROR);
@@ -111,7 +112,7 @@ fn raise_step(t: Table, q: Queue, largest: u64, dcid_limit: u64, x: Item, b: u64
 }
 
 fn new_step(t: Table, q: Queue, largest: u64, dcid_limit: u64, x: Item, b: u64) -> RetiredParts
-    requires { ⌜ Held t q largest «dcid_limit» × (itemFormed x ≡ true) ⌝ }
+    requires { ⌜ FromState t q largest «dcid_limit» × (itemFormed x ≡ true) ⌝ }
     ensures { λ r. ⌜ Gives t q largest «dcid_limit» r (S.addNew (itemView x) b) ⌝ }
 {
     if x.seq < b {

@@ -2,8 +2,8 @@
 ghost use mathlib.Core.Path.{_≡_};
 ghost use mathlib.Core.Bool.{true};
 ghost use mathlib.Core.List.{[], _∷_};
-ghost use Prim.Native.Nat.{max, min};
-ghost use Rattle.values.specs.Limits.{maxCidsCount, minScidLimit};
+ghost use Prim.Native.Nat.{_≤_, max, min};
+ghost use Rattle.values.specs.Limits.{capacityFor, maxCidsCount, minScidLimit};
 ghost use Rattle.values.specs.Token.{tokenFormed, tokenView};
 ghost use Rattle.ids_rules.specs.Steps as S;
 ghost use Rattle.tables.specs.Table.{tableOf};
@@ -59,12 +59,13 @@ pub fn first_state(dcid_limit: u64, cid: ConnectionId, path: u64, token: Token) 
     let one = only(cid, token, true, path);
     let none = tables::no_items();
     let q = tables::no_entries();
+    let capacity = capacity_for(MIN_SCID_LIMIT);
     Ids {
         scids: one,
         dcids: none,
-        scid_capacity: 3,
+        scid_capacity: capacity as usize,
         dcid_limit: dcid_limit,
-        scid_limit: 2,
+        scid_limit: MIN_SCID_LIMIT,
         zero_length_scid: cid.len == 0,
         zero_length_dcid: false,
         next_scid_seq: 1,
@@ -73,6 +74,14 @@ pub fn first_state(dcid_limit: u64, cid: ConnectionId, path: u64, token: Token) 
         scids_to_advertise: q,
         dcids_to_retire: q,
     }
+}
+
+// How many items a table may hold for a limit.
+pub fn capacity_for(limit: u64) -> u64
+    requires { ⌜ (1 ≤ limit) × (limit ≤ maxCidsCount) ⌝ }
+    ensures { λ r. ⌜ r ≡ capacityFor limit ⌝ }
+{
+    2 * limit - 1
 }
 
 // Between 2 and 16.

@@ -10,10 +10,10 @@ use lib.Dec.{leb, ltb}
 use borrow.Author.Tests.{leb-true, leb-false, ltb-true, ltb-false, not-false}
 use Rattle.lists.specs.Defs.{present, first, keep, any, has}
 use Rattle.values.specs.declared.cid.ConnectionId.{ConnectionId}
-use Rattle.values.specs.Limits.{maxSequence, queueSlots}
+use Rattle.values.specs.Limits.{maxSequence, queueSlots, capacityFor}
 use Rattle.values.specs.Cid.{sameId}
 use Rattle.ids_rules.specs.Values.{Item, seqOf, hasSeq, from, below, clashes, repeats}
-use Rattle.ids_rules.specs.View.{View, Issued, Freed, Retired, Out, refused, accepted, dcap}
+use Rattle.ids_rules.specs.View.{View, Issued, Freed, Retired, Out, refused, accepted}
 use Rattle.ids_rules.specs.With.{withScids, withDcids, withRetirePriorTo, withDcidsToRetire}
 use Rattle.ids_rules.specs.Steps.{lowestFrom, issued, issue, addScid, sole, without, retireScid, tooMany, append, queueLate, pairs, lowered, raise, addNew, addDcid}
 use Rattle.ids_rules.specs.Laws.{decided, optioned, first-none, first-some}
@@ -105,10 +105,10 @@ pub data AddDcidEnds (x : Item) (b : ℕ) (v : View) : Out → Type 0 where
       → AddDcidEnds x b v (accepted (Retired []) (withDcidsToRetire (v .dcidsToRetire ++ (x .seq ∷ [])) v))
   -- lower sequences have moved, and the call is refused, or the ID added
   lowers : (n : ℕ) → Partial n → New x b v → v .largestPeerRetirePriorTo < b → length (queued b v) ≤ queueSlots → AddDcidEnds x b v (refused n (lowered b v))
-  renews : New x b v → v .largestPeerRetirePriorTo < b → length (queued b v) ≤ queueSlots → length (keep (from b) (v .dcids)) < dcap (v .dcidLimit) → tooMany (lowered b v) ≡ false
+  renews : New x b v → v .largestPeerRetirePriorTo < b → length (queued b v) ≤ queueSlots → length (keep (from b) (v .dcids)) < capacityFor (v .dcidLimit) → tooMany (lowered b v) ≡ false
       → AddDcidEnds x b v (accepted (Retired (pairs (keep (below b) (v .dcids)))) (withDcids (keep (from b) (v .dcids) ++ (x ∷ [])) (lowered b v)))
   -- the ID is added; if it is late, it was queued before
-  adds : New x b v → b ≤ v .largestPeerRetirePriorTo → (x .seq < v .largestPeerRetirePriorTo → has (x .seq) (v .dcidsToRetire) ≡ true) → length (v .dcids) < dcap (v .dcidLimit)
+  adds : New x b v → b ≤ v .largestPeerRetirePriorTo → (x .seq < v .largestPeerRetirePriorTo → has (x .seq) (v .dcidsToRetire) ≡ true) → length (v .dcids) < capacityFor (v .dcidLimit)
       → AddDcidEnds x b v (accepted (Retired []) (withDcids (v .dcids ++ (x ∷ [])) v))
 
 module _ (x : Item) (b : ℕ) (v : View) where
@@ -134,10 +134,10 @@ module _ (x : Item) (b : ℕ) (v : View) where
           decided E (ltb queueSlots (length (queued b v))) (λ e. rejects 6 (omega arith)) (λ f.
           let m = ltb-false queueSlots (length (queued b v)) f in
           decided E (tooMany (lowered b v)) (λ e. lowers 4 (omega arith) n k m) (λ t.
-          decided E (leb (dcap (v .dcidLimit)) (length (keep (from b) (v .dcids)))) (λ e. lowers 3 (omega arith) n k m)
-          (λ e. renews n k m (leb-false (dcap (v .dcidLimit)) (length (keep (from b) (v .dcids))) e) t))))
-          (λ e. decided E (leb (dcap (v .dcidLimit)) (length (v .dcids))) (λ e. rejects 3 (omega arith))
-          (λ f. adds n (ltb-false (v .largestPeerRetirePriorTo) b e) h (leb-false (dcap (v .dcidLimit)) (length (v .dcids)) f)))
+          decided E (leb (capacityFor (v .dcidLimit)) (length (keep (from b) (v .dcids)))) (λ e. lowers 3 (omega arith) n k m)
+          (λ e. renews n k m (leb-false (capacityFor (v .dcidLimit)) (length (keep (from b) (v .dcids))) e) t))))
+          (λ e. decided E (leb (capacityFor (v .dcidLimit)) (length (v .dcids))) (λ e. rejects 3 (omega arith))
+          (λ f. adds n (ltb-false (v .largestPeerRetirePriorTo) b e) h (leb-false (capacityFor (v .dcidLimit)) (length (v .dcids)) f)))
 
       test : New x b v → (t u : Bool) → ltb (x .seq) (v .largestPeerRetirePriorTo) ≡ t → has (x .seq) (v .dcidsToRetire) ≡ u → E (cond (t && not u) (queueLate (x .seq) v) (cond (ltb (v .largestPeerRetirePriorTo) b) (raise x b v) (append x [] v)))
       test n true true e q = rest n (λ k. q)

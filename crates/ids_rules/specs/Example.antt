@@ -11,7 +11,7 @@ use Rattle.values.specs.Limits.{tokenLen}
 use Rattle.ids_rules.specs.View.{View}
 use Rattle.ids_rules.specs.Steps.{fresh}
 use Rattle.ids_rules.specs.Calls.{Call, SetScidLimit, AddScid, RetireScid, run}
-use Rattle.ids_rules.specs.Promise.{Starts, starts, Event, history, issues, live, sequences}
+use Rattle.ids_rules.specs.Promise.{Starts, starts, Event, history, issues, remaining, sequences}
 
 abbrev cid : ℕ → ConnectionId
 cid n = cidNew (n ∷ [])
@@ -39,5 +39,5 @@ answered = refl
 issued : issues (history start calls) ≡ 1 ∷ 2 ∷ 3 ∷ 4 ∷ []
 issued = refl
 
-left : (live (0 ∷ []) (history start calls) ≡ 1 ∷ 3 ∷ 4 ∷ []) × (sequences (run start calls) ≡ 1 ∷ 3 ∷ 4 ∷ [])
+left : (remaining (0 ∷ []) (history start calls) ≡ 1 ∷ 3 ∷ 4 ∷ []) × (sequences (run start calls) ≡ 1 ∷ 3 ∷ 4 ∷ [])
 left = (refl, refl)

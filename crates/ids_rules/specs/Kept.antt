@@ -1,5 +1,5 @@
 -- Every call keeps the view well formed.
-use Prim.Native.Nat.{ℕ, suc, _+_, _-_, _*_, _%_, _≤_, _<_, min}
+use Prim.Native.Nat.{ℕ, suc, _+_, _%_, _≤_, _<_, min}
 use mathlib.Core.Path.{_≡_, refl, sym, ap, ap₂, _∙_}
 use mathlib.Core.List.{List, [], _∷_, _++_, map}
 use mathlib.Core.Bool.{Bool, true, false, cond, not, _&&_, or-true, and-true}
@@ -12,14 +12,14 @@ use Rattle.lists.specs.Defs.{every, keep, any, all, least, less}
 use Rattle.lists.specs.Bools.{and-both}
 use Rattle.lists.specs.Search.{length-keep}
 use Rattle.values.specs.declared.cid.ConnectionId.{ConnectionId}
-use Rattle.values.specs.Limits.{maxCidsCount, maxDcidLimit, maxSequence, minScidLimit, queueSlots, tableSlots}
+use Rattle.values.specs.Limits.{maxCidsCount, maxDcidLimit, maxSequence, minScidLimit, queueSlots, tableSlots, capacityFor}
 use Rattle.values.specs.Cid.{idFormed}
 use Rattle.ids_rules.specs.Values.{Item, onPath, seqOf, hasSeq, from, clashes, itemFormed}
-use Rattle.ids_rules.specs.View.{View, Out, dcap}
+use Rattle.ids_rules.specs.View.{View, Out}
 use Rattle.ids_rules.specs.With.{withScids, withDcids, withRetirePriorTo, withDcidsToRetire}
 use Rattle.ids_rules.specs.Steps.{lowestFrom, marked, sole, without, lowered, used}
 use Rattle.ids_rules.specs.Ends.{Raised, spare, lifts, AddScidEnds, refuses, raises, issues, RetireScidEnds, unissued, only, absent, out, frees, AddDcidEnds, rejects, again, late4, late, lowers, renews, adds, queued, add-scid-ends, retire-scid-ends, add-dcid-ends}
-use Rattle.ids_rules.specs.Well.{rising, distinct, limits, source, destination, queues, well}
+use Rattle.ids_rules.specs.Well.{risingWithin, distinct, limits, source, destination, queues, well}
 use Rattle.ids_rules.specs.Calls.{Call, SetInitialDcid, SetScidLimit, AddScid, RetireScid, AddDcid, MarkScidUsed, MarkDcidUsed, MarkScidToAdvertise, MarkDcidToRetire, Ask, callFormed, step}
 use Rattle.ids_rules.specs.Laws.{decided, both-and, or-neither, every-is, is-every, all-append, all-keep, all-moved, any-moved, none-keep, none-append}
 
@@ -30,7 +30,7 @@ pub record Limits (dcidLimit scidLimit scidCapacity : ℕ) : Type 0 where
   pub slow : minScidLimit ≤ scidLimit
   pub shigh : scidLimit ≤ maxCidsCount
   pub odd : scidCapacity % 2 ≡ 1
-  pub room : 2 * scidLimit - 1 ≤ scidCapacity
+  pub room : capacityFor scidLimit ≤ scidCapacity
   pub most : scidCapacity ≤ tableSlots
 
 pub record Source (scidCapacity next rpt : ℕ) (l : List Item) : Type 0 where
@@ -39,11 +39,11 @@ pub record Source (scidCapacity next rpt : ℕ) (l : List Item) : Type 0 where
   pub low : 1 ≤ next
   pub high : next ≤ maxSequence
   pub own : rpt ≤ next
-  pub rises : rising 0 next l ≡ true
+  pub rises : risingWithin 0 next l ≡ true
   pub forms : all itemFormed l ≡ true
 
 pub record Destination (dcidLimit : ℕ) (l : List Item) : Type 0 where
-  pub few : length l ≤ dcap dcidLimit
+  pub few : length l ≤ capacityFor dcidLimit
   pub apart : distinct l ≡ true
   pub forms : all itemFormed l ≡ true
 
@@ -84,56 +84,56 @@ is-well v h =
 
 -- ---- source sequences that rise
 
-rising-bound : (b n : ℕ) (l : List Item) → rising b n l ≡ true → b ≤ n
+rising-bound : (b n : ℕ) (l : List Item) → risingWithin b n l ≡ true → b ≤ n
 rising-bound b n [] h = leb-true b n h
-rising-bound b n (x ∷ l) h = let w = and-both (leb b (x .seq)) (rising (x .seq + 1) n l) h in omega (arith, leb-true b (x .seq) (w .0), rising-bound (x .seq + 1) n l (w .1))
+rising-bound b n (x ∷ l) h = let w = and-both (leb b (x .seq)) (risingWithin (x .seq + 1) n l) h in omega (arith, leb-true b (x .seq) (w .0), rising-bound (x .seq + 1) n l (w .1))
 
-rising-from : (b c n : ℕ) (l : List Item) → b ≤ c → rising c n l ≡ true → rising b n l ≡ true
+rising-from : (b c n : ℕ) (l : List Item) → b ≤ c → risingWithin c n l ≡ true → risingWithin b n l ≡ true
 rising-from b c n [] k h = le-leb b n (omega (arith, leb-true c n h))
 rising-from b c n (x ∷ l) k h =
-    let w = and-both (leb c (x .seq)) (rising (x .seq + 1) n l) h in
-    both-and (leb b (x .seq)) (rising (x .seq + 1) n l) (le-leb b (x .seq) (omega (arith, leb-true c (x .seq) (w .0)))) (w .1)
+    let w = and-both (leb c (x .seq)) (risingWithin (x .seq + 1) n l) h in
+    both-and (leb b (x .seq)) (risingWithin (x .seq + 1) n l) (le-leb b (x .seq) (omega (arith, leb-true c (x .seq) (w .0)))) (w .1)
 
-rising-keep : (p : Item → Bool) (b n : ℕ) (l : List Item) → rising b n l ≡ true → rising b n (keep p l) ≡ true
+rising-keep : (p : Item → Bool) (b n : ℕ) (l : List Item) → risingWithin b n l ≡ true → risingWithin b n (keep p l) ≡ true
 rising-keep p b n [] h = h
 rising-keep p b n (x ∷ l) h =
-    let w = and-both (leb b (x .seq)) (rising (x .seq + 1) n l) h in
-    let k : rising (x .seq + 1) n (keep p l) ≡ true = rising-keep p (x .seq + 1) n l (w .1) in
-    decided (λ (m : List Item). rising b n m ≡ true) (p x)
-    (λ e. both-and (leb b (x .seq)) (rising (x .seq + 1) n (keep p l)) (w .0) k)
+    let w = and-both (leb b (x .seq)) (risingWithin (x .seq + 1) n l) h in
+    let k : risingWithin (x .seq + 1) n (keep p l) ≡ true = rising-keep p (x .seq + 1) n l (w .1) in
+    decided (λ (m : List Item). risingWithin b n m ≡ true) (p x)
+    (λ e. both-and (leb b (x .seq)) (risingWithin (x .seq + 1) n (keep p l)) (w .0) k)
     (λ e. rising-from b (x .seq + 1) n (keep p l) (omega (arith, leb-true b (x .seq) (w .0))) k)
 
 -- one more, at the end
-rising-more : (b n : ℕ) (l : List Item) (x : Item) → x .seq ≡ n → rising b n l ≡ true → rising b (n + 1) (l ++ (x ∷ [])) ≡ true
+rising-more : (b n : ℕ) (l : List Item) (x : Item) → x .seq ≡ n → risingWithin b n l ≡ true → risingWithin b (n + 1) (l ++ (x ∷ [])) ≡ true
 rising-more b n [] x q h = rw q (both-and (leb b n) (leb (n + 1) (n + 1)) h (le-leb (n + 1) (n + 1) (omega arith)))
 rising-more b n (y ∷ l) x q h =
-    let w = and-both (leb b (y .seq)) (rising (y .seq + 1) n l) h in
-    both-and (leb b (y .seq)) (rising (y .seq + 1) (n + 1) (l ++ (x ∷ []))) (w .0) (rising-more (y .seq + 1) n l x q (w .1))
+    let w = and-both (leb b (y .seq)) (risingWithin (y .seq + 1) n l) h in
+    both-and (leb b (y .seq)) (risingWithin (y .seq + 1) (n + 1) (l ++ (x ∷ []))) (w .0) (rising-more (y .seq + 1) n l x q (w .1))
 
-rising-map : (f : Item → Item) → ((x : Item) → f x .seq ≡ x .seq) → (b n : ℕ) (l : List Item) → rising b n (map f l) ≡ rising b n l
+rising-map : (f : Item → Item) → ((x : Item) → f x .seq ≡ x .seq) → (b n : ℕ) (l : List Item) → risingWithin b n (map f l) ≡ risingWithin b n l
 rising-map f e b n [] = refl
 rising-map f e b n (x ∷ l) = rw (e x) (ap (λ (t : Bool). leb b (x .seq) && t) (rising-map f e (x .seq + 1) n l))
 
 -- a sequence below the first, or not below the bound, is not there
-pub absent-low : (s b n : ℕ) (l : List Item) → s < b → rising b n l ≡ true → any (hasSeq s) l ≡ false
+pub absent-low : (s b n : ℕ) (l : List Item) → s < b → risingWithin b n l ≡ true → any (hasSeq s) l ≡ false
 absent-low s b n [] k h = refl
 absent-low s b n (x ∷ l) k h =
-    let w = and-both (leb b (x .seq)) (rising (x .seq + 1) n l) h in
+    let w = and-both (leb b (x .seq)) (risingWithin (x .seq + 1) n l) h in
     let z = leb-true b (x .seq) (w .0) in
     rw (ne-eqb s (x .seq) (λ e. omega arith)) (absent-low s (x .seq + 1) n l (omega arith) (w .1))
 
-pub absent-high : (s b n : ℕ) (l : List Item) → n ≤ s → rising b n l ≡ true → any (hasSeq s) l ≡ false
+pub absent-high : (s b n : ℕ) (l : List Item) → n ≤ s → risingWithin b n l ≡ true → any (hasSeq s) l ≡ false
 absent-high s b n [] k h = refl
 absent-high s b n (x ∷ l) k h =
-    let w = and-both (leb b (x .seq)) (rising (x .seq + 1) n l) h in
+    let w = and-both (leb b (x .seq)) (risingWithin (x .seq + 1) n l) h in
     let z = rising-bound (x .seq + 1) n l (w .1) in
     rw (ne-eqb s (x .seq) (λ e. omega arith)) (absent-high s (x .seq + 1) n l k (w .1))
 
 -- the lowest is below the bound
-pub lowest-below : (b c n : ℕ) (l : List Item) (s : ℕ) → rising b n l ≡ true → lowestFrom c l ≡ some s → s < n
+pub lowest-below : (b c n : ℕ) (l : List Item) (s : ℕ) → risingWithin b n l ≡ true → lowestFrom c l ≡ some s → s < n
 lowest-below b c n [] s h e = let z : _≡_ {A = ℕ} 0 1 = cc in absurd (omega arith)
 lowest-below b c n (x ∷ l) s h e =
-    let w = and-both (leb b (x .seq)) (rising (x .seq + 1) n l) h in
+    let w = and-both (leb b (x .seq)) (risingWithin (x .seq + 1) n l) h in
     let z : x .seq < n = omega (arith, rising-bound (x .seq + 1) n l (w .1)) in
     decided (λ (m : List Item). least (map seqOf m) ≡ some s → s < n) (leb c (x .seq))
     (λ t. min-case (least (map seqOf (keep (from c) l))) z) (λ t. lowest-below (x .seq + 1) c n l s (w .1)) e
@@ -147,14 +147,14 @@ without-none : (s : ℕ) (l : List Item) → any (hasSeq s) l ≡ false → with
 without-none s [] h = refl
 without-none s (x ∷ l) h = let w = or-neither (hasSeq s x) (any (hasSeq s) l) h in rw (w .0) (ap (λ (m : List Item). x ∷ m) (without-none s l (w .1)))
 
-without-one : (s b n : ℕ) (l : List Item) → rising b n l ≡ true → length l ≤ length (without s l) + 1
+without-one : (s b n : ℕ) (l : List Item) → risingWithin b n l ≡ true → length l ≤ length (without s l) + 1
 without-one s b n [] h = omega arith
 without-one s b n (x ∷ l) h =
-    let w = and-both (leb b (x .seq)) (rising (x .seq + 1) n l) h in
+    let w = and-both (leb b (x .seq)) (risingWithin (x .seq + 1) n l) h in
     let k = without-one s (x .seq + 1) n l (w .1) in
     test (hasSeq s x) refl k (w .1)
   where
-    test : (t : Bool) → eqb s (x .seq) ≡ t → length l ≤ length (without s l) + 1 → rising (x .seq + 1) n l ≡ true → suc (length l) ≤ length (cond (not t) (x ∷ without s l) (without s l)) + 1
+    test : (t : Bool) → eqb s (x .seq) ≡ t → length l ≤ length (without s l) + 1 → risingWithin (x .seq + 1) n l ≡ true → suc (length l) ≤ length (cond (not t) (x ∷ without s l) (without s l)) + 1
     test true e k r = rw (without-none s l (absent-low s (x .seq + 1) n l (omega (arith, eqb-true s (x .seq) e)) r)) (omega arith)
     test false e k r = omega arith
 
@@ -289,7 +289,7 @@ retire-well s packet v (frees x r a e l) h =
 queue-well : (l : List ℕ) (v : View) → length l ≤ queueSlots → Well v → Well (withDcidsToRetire l v)
 queue-well l v k h = record { limits = h .limits; source = h .source; destination = h .destination; queues = record { adverts = h .queues .adverts; retires = k } }
 
-more-well : (x : Item) (v : View) → itemFormed x ≡ true → any (λ (y : Item). clashes y x) (v .dcids) ≡ false → length (v .dcids) < dcap (v .dcidLimit) → Well v → Well (withDcids (v .dcids ++ (x ∷ [])) v)
+more-well : (x : Item) (v : View) → itemFormed x ≡ true → any (λ (y : Item). clashes y x) (v .dcids) ≡ false → length (v .dcids) < capacityFor (v .dcidLimit) → Well v → Well (withDcids (v .dcids ++ (x ∷ [])) v)
 more-well x v f c l h = record {
   limits = h .limits;
   source = h .source;

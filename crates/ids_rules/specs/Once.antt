@@ -24,7 +24,7 @@ use Rattle.ids_rules.specs.Calls.{Reply, reply, callFormed, step, apply,
 use Rattle.ids_rules.specs.Laws.{decided, optioned, never, none-append, none-keep}
 use Rattle.ids_rules.specs.Kept.{Well, well-is, absent-high, used-seq}
 use Rattle.ids_rules.specs.Never.{fresh-well, keeps-well, run-well}
-use Rattle.ids_rules.specs.Promise.{Starts, starts, Event, event, history, issuedBy, issues, retires, out, logged, live, counted, sequences, WithoutGap, TableIsHistory, NeverReturns}
+use Rattle.ids_rules.specs.Promise.{Starts, starts, Event, event, history, issuedBy, issues, retires, out, logged, remaining, counted, sequences, WithoutGap, TableIsHistory, NeverReturns}
 
 -- ---- sequences of a list of items
 
@@ -117,7 +117,8 @@ dcid-traced c {v = v} e (lowers m k n l q) = still v c _ e refl refl refl
 dcid-traced c {v = v} e (renews n l q r t) = still v c _ e refl refl refl
 dcid-traced c {v = v} e (adds n l q r) = still v c _ e refl refl refl
 
-reply-quiet : (v : View) (q : Query) → issuedBy (reply v q .answer) ≡ []
+-- a query issues nothing
+pub reply-quiet : (v : View) (q : Query) → issuedBy (reply v q .answer) ≡ []
 reply-quiet v (GetScid s) = optioned (λ (r : Reply). issuedBy (r .answer) ≡ []) (first (hasSeq s) (v .scids)) (λ e. refl) (λ x e. refl)
 reply-quiet v (GetDcid s) = optioned (λ (r : Reply). issuedBy (r .answer) ≡ []) (first (hasSeq s) (v .dcids)) (λ e. refl) (λ x e. refl)
 reply-quiet v (FindScid c) = optioned (λ (a : Answer). issuedBy a ≡ []) (first (λ (x : Item). sameId (x .cid) c) (v .scids)) (λ e. refl) (λ x e. refl)
@@ -176,7 +177,7 @@ longer one = omega arith
 
 record Ran (v : View) (cs : List Call) : Type 0 where
   gapless : issues (history v cs) ≡ counted (v .nextScidSeq) (length (issues (history v cs)))
-  table : sequences (run v cs) ≡ live (sequences v) (history v cs)
+  table : sequences (run v cs) ≡ remaining (sequences v) (history v cs)
   next : run v cs .nextScidSeq ≡ v .nextScidSeq + length (issues (history v cs))
 
 ran : (cs : List Call) (v : View) → well v ≡ true → Ran v cs
@@ -186,7 +187,7 @@ ran (c ∷ cs) v h =
     let r : Ran (after v c) cs = ran cs (after v c) (keeps-well v c h) in
     record {
       gapless = join (t .issue) (issues (history (after v c) cs)) (r .gapless);
-      table = r .table ∙ ap (λ (l : List ℕ). live l (history (after v c) cs)) (t .table);
+      table = r .table ∙ ap (λ (l : List ℕ). remaining l (history (after v c) cs)) (t .table);
       next = omega (arith, r .next, longer (t .issue), length-append (issuedBy (apply v c .answer)) (issues (history (after v c) cs)));
     }
 
@@ -237,7 +238,7 @@ pub without-gap : WithoutGap
 without-gap v f cs = subst (λ (n : ℕ). issues (history v cs) ≡ counted n (length (issues (history v cs)))) (begun v f .next) (ran cs v (fresh-well v f) .gapless)
 
 pub table-is-history : TableIsHistory
-table-is-history v f cs = ran cs v (fresh-well v f) .table ∙ ap (λ (l : List ℕ). live l (history v cs)) (begun v f .table)
+table-is-history v f cs = ran cs v (fresh-well v f) .table ∙ ap (λ (l : List ℕ). remaining l (history v cs)) (begun v f .table)
 
 pub never-returns : NeverReturns
 never-returns v f cs ds s was gone-now =

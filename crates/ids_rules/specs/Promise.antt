@@ -109,9 +109,9 @@ out s l = cond (leb 2 (length l) && has s l) (keep (λ (n : ℕ). not (eqb s n))
 abbrev pub logged : List ℕ → Event → List ℕ
 logged l e = maybe (retires (e .call)) (l ++ issuedBy (e .answer)) (λ s. cond (eqb (e .refusal) 1) l (out s l))
 
-abbrev pub live : List ℕ → List Event → List ℕ
-live l [] = l
-live l (e ∷ es) = live (logged l e) es
+abbrev pub remaining : List ℕ → List Event → List ℕ
+remaining l [] = l
+remaining l (e ∷ es) = remaining (logged l e) es
 
 -- n, n + 1, n + 2, .. : k of them
 abbrev pub counted : ℕ → ℕ → List ℕ
@@ -128,7 +128,7 @@ WithoutGap = (v : View) → Starts v → (cs : List Call) → issues (history v 
 
 -- the table holds sequence 0 and those issued, less those taken out
 abbrev pub TableIsHistory : Type 0
-TableIsHistory = (v : View) → Starts v → (cs : List Call) → sequences (run v cs) ≡ live (0 ∷ []) (history v cs)
+TableIsHistory = (v : View) → Starts v → (cs : List Call) → sequences (run v cs) ≡ remaining (0 ∷ []) (history v cs)
 
 -- a sequence that was there, 0 or issued, and is out after cs, is out after any more calls ds
 abbrev pub NeverReturns : Type 0

@@ -11,10 +11,10 @@ use lib.Dec.{eqb, leb, ltb}
 use Rattle.lists.specs.Defs.{maybe, present, first, keep, any, all, has}
 use Rattle.values.specs.declared.cid.ConnectionId.{ConnectionId}
 use Rattle.values.specs.Cid.{cidNew, zeroId, sameId}
-use Rattle.values.specs.Limits.{maxCidLen, tokenLen, minScidLimit, maxCidsCount, maxSequence, queueSlots, retireFactor}
+use Rattle.values.specs.Limits.{maxCidLen, tokenLen, minScidLimit, maxCidsCount, maxSequence, queueSlots, retireFactor, capacityFor}
 use Rattle.values.specs.Refusals.{wireCode, CONNECTION-ID-LIMIT-ERROR, PROTOCOL-VIOLATION}
 use Rattle.ids_rules.specs.Values.{Item, seqOf, hasSeq, hasCid, from, below, clashes, sameToken, repeats}
-use Rattle.ids_rules.specs.View.{View, Out, Issued, Retired, Perhaps, Frame, accepted, dcap}
+use Rattle.ids_rules.specs.View.{View, Out, Issued, Retired, Perhaps, Frame, accepted}
 use Rattle.ids_rules.specs.Steps.{fresh, sole, without, lowestFrom}
 use Rattle.ids_rules.specs.Well.{well}
 use Rattle.ids_rules.specs.Calls.{Call, SetInitialDcid, SetScidLimit, AddScid, RetireScid, AddDcid, MarkScidUsed, MarkDcidUsed, MarkScidToAdvertise, MarkDcidToRetire, Ask, callFormed, apply, run}
@@ -195,7 +195,7 @@ OverLimit v f o = otherwise v f ≡ false → comesLate v f ≡ false → inNeed
 
 -- the exception: fewer than 2 x limit - 1 are kept
 abbrev pub unfilled : View → NewConnectionId → Bool
-unfilled v f = ltb (length (kept v f)) (dcap (v .dcidLimit))
+unfilled v f = ltb (length (kept v f)) (capacityFor (v .dcidLimit))
 
 -- SHOULD supply a new ID when the peer retires one: where fewer are active than the peer allows, one can be issued
 abbrev pub Supplies : Rule Issue

@@ -12,13 +12,13 @@ use Rattle.lists.specs.Defs.{present, first, keep, any, least, less, has}
 use Rattle.lists.specs.Bools.{and-both}
 use Rattle.lists.specs.Search.{length-keep}
 use Rattle.values.specs.declared.cid.ConnectionId.{ConnectionId}
-use Rattle.values.specs.Limits.{maxSequence, queueSlots, retireFactor}
+use Rattle.values.specs.Limits.{maxSequence, queueSlots, retireFactor, capacityFor}
 use Rattle.values.specs.Cid.{sameId}
 use Rattle.values.specs.Laws.{same-id-is}
 use Rattle.values.specs.Refusals.{CONNECTION-ID-LIMIT-ERROR, PROTOCOL-VIOLATION}
 use Rattle.ids_rules.specs.Values.{Item, onPath, seqOf, hasSeq, hasCid, from, below, clashes, repeats}
 use Rattle.values.specs.declared.used.UsedSeq.{UsedSeq}
-use Rattle.ids_rules.specs.View.{View, Nothing, Issued, Out, refused, dcap}
+use Rattle.ids_rules.specs.View.{View, Nothing, Issued, Out, refused}
 use Rattle.ids_rules.specs.With.{withDcidsToRetire}
 use Rattle.ids_rules.specs.Steps.{lowestFrom, sole, without, tooMany, queueLate, raise, append, lowered}
 use Rattle.ids_rules.specs.Ends.{Raised, spare, lifts, AddScidEnds, refuses, raises, issues, RetireScidEnds, unissued, only as only-one, absent, out, frees, AddDcidEnds, rejects, again, late4, late, lowers, renews, adds, queued, add-scid-ends, retire-scid-ends, add-dcid-ends}
@@ -562,17 +562,17 @@ over-limit : MetUnless newId unfilled OverLimit
 over-limit = met-unless newId OverLimit unfilled (λ v f h g n l m k.
     let P : Out → Type 0 = Closes CONNECTION-ID-LIMIT-ERROR in
     let b : ℕ = f .retirePriorTo in
-    let full : dcap (v .dcidLimit) ≤ length (kept v f) = ltb-false (length (kept v f)) (dcap (v .dcidLimit)) g in
+    let full : capacityFor (v .dcidLimit) ≤ length (kept v f) = ltb-false (length (kept v f)) (capacityFor (v .dcidLimit)) g in
     plain v f P n
     (λ q e. never (sym (and-both (comesLate v f) _ q .0) ∙ l))
     (λ q e.
     decided P (ltb queueSlots (length (queued b v))) (λ t. absurd (omega (arith, need-raised v f q e, ltb-true queueSlots (length (queued b v)) t, h .limits .dhigh))) (λ t.
     decided P (tooMany (lowered b v)) (λ t. absurd (omega (arith, need-raised v f q e, too-many (lowered b v) t))) (λ t.
-    decided P (leb (dcap (v .dcidLimit)) (length (keep (from b) (v .dcids)))) (λ t. (refl, refl))
-    (λ t. absurd (omega (arith, ap length (kept-from v f (ltb-true (v .largestPeerRetirePriorTo) b e)), leb-false (dcap (v .dcidLimit)) (length (keep (from b) (v .dcids))) t))))))
+    decided P (leb (capacityFor (v .dcidLimit)) (length (keep (from b) (v .dcids)))) (λ t. (refl, refl))
+    (λ t. absurd (omega (arith, ap length (kept-from v f (ltb-true (v .largestPeerRetirePriorTo) b e)), leb-false (capacityFor (v .dcidLimit)) (length (keep (from b) (v .dcids))) t))))))
     (λ q e.
-    decided P (leb (dcap (v .dcidLimit)) (length (v .dcids))) (λ t. (refl, refl))
-    (λ t. absurd (omega (arith, ap length (kept-all v f (ltb-false (v .largestPeerRetirePriorTo) b e)), leb-false (dcap (v .dcidLimit)) (length (v .dcids)) t)))))
+    decided P (leb (capacityFor (v .dcidLimit)) (length (v .dcids))) (λ t. (refl, refl))
+    (λ t. absurd (omega (arith, ap length (kept-all v f (ltb-false (v .largestPeerRetirePriorTo) b e)), leb-false (capacityFor (v .dcidLimit)) (length (v .dcids)) t)))))
 
 -- with no more than the limit before, 128 is not reached
 many-to-retire : MetUnless newId crowded (TooManyToRetire PROTOCOL-VIOLATION)
@@ -610,7 +610,7 @@ tracks-twice = met-unless newId TracksTwice otherwise (λ v f h n k.
     (λ q e. appended (itemOf f) v []))
   where
     appended : (x : Item) (w : View) (ps : List UsedSeq) → (Closes CONNECTION-ID-LIMIT-ERROR (append x ps w) → ⊥) → append x ps w .refusal ≡ 0
-    appended x w ps = decided (λ (o : Out). (Closes CONNECTION-ID-LIMIT-ERROR o → ⊥) → o .refusal ≡ 0) (leb (dcap (w .dcidLimit)) (length (w .dcids))) (λ e c. absurd (c (refl, refl))) (λ e c. refl)
+    appended x w ps = decided (λ (o : Out). (Closes CONNECTION-ID-LIMIT-ERROR o → ⊥) → o .refusal ≡ 0) (leb (capacityFor (w .dcidLimit)) (length (w .dcids))) (λ e c. absurd (c (refl, refl))) (λ e c. refl)
 
 -- ---- the whole
 

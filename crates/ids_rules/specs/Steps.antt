@@ -1,5 +1,5 @@
 -- docs/RULES.md, "Source IDs", "Destination IDs" and "Marks, queues and lookups": each call that changes the IDs, its checks in their order.
-use Prim.Native.Nat.{ℕ, _+_, _-_, _*_, min, max}
+use Prim.Native.Nat.{ℕ, _+_, _*_, min, max}
 use mathlib.Core.List.{List, [], _∷_, _++_, map}
 use mathlib.Core.Bool.{Bool, true, false, cond, not, _&&_}
 use mathlib.Core.Option.{Option, none, some}
@@ -8,10 +8,10 @@ use lib.Dec.{eqb, leb, ltb}
 use Rattle.lists.specs.Defs.{maybe, present, first, keep, any, least, has}
 use Rattle.values.specs.declared.cid.ConnectionId.{ConnectionId}
 use Rattle.values.specs.Cid.{emptyId, sameId, idFormed}
-use Rattle.values.specs.Limits.{maxDcidLimit, minScidLimit, maxCidsCount, maxSequence, queueSlots, retireFactor}
+use Rattle.values.specs.Limits.{maxDcidLimit, minScidLimit, maxCidsCount, maxSequence, queueSlots, retireFactor, capacityFor}
 use Rattle.ids_rules.specs.Values.{Item, onPath, seqOf, hasSeq, from, below, clashes, repeats}
 use Rattle.values.specs.declared.used.UsedSeq.{UsedSeq}
-use Rattle.ids_rules.specs.View.{View, Nothing, Issued, Freed, Retired, Out, refused, accepted, dcap}
+use Rattle.ids_rules.specs.View.{View, Nothing, Issued, Freed, Retired, Out, refused, accepted}
 use Rattle.ids_rules.specs.With.{withScids, withDcids, withScidLimit, withScidCapacity, withZeroLengthDcid, withNextScidSeq, withRetirePriorTo, withLargestPeerRetirePriorTo, withScidsToAdvertise, withDcidsToRetire}
 
 -- ---- fresh: one item, sequence 0, limit 2, capacity 3, next 1
@@ -21,8 +21,8 @@ fresh dcidLimit cid path token = record {
   scids = record { cid = cid; seq = 0; token = token; path = some path } ∷ [];
   dcids = [];
   dcidLimit = dcidLimit;
-  scidLimit = 2;
-  scidCapacity = 3;
+  scidLimit = minScidLimit;
+  scidCapacity = capacityFor minScidLimit;
   zeroLengthScid = emptyId cid;
   zeroLengthDcid = false;
   nextScidSeq = 1;
@@ -46,7 +46,7 @@ freshCall dcidLimit cid path token = cond (freshFormed dcidLimit cid) (accepted 
 
 -- clamps to 2..16 and only raises capacity
 abbrev pub setScidLimit : ℕ → View → Out
-setScidLimit n v = let limit : ℕ = max minScidLimit (min n maxCidsCount) in accepted Nothing (withScidLimit limit (withScidCapacity (max (v .scidCapacity) (2 * limit - 1)) v))
+setScidLimit n v = let limit : ℕ = max minScidLimit (min n maxCidsCount) in accepted Nothing (withScidLimit limit (withScidCapacity (max (v .scidCapacity) (capacityFor limit)) v))
 
 -- the lowest sequence not below b
 abbrev pub lowestFrom : ℕ → List Item → Option ℕ
@@ -112,7 +112,7 @@ tooMany v = ltb (retireFactor * v .dcidLimit) (length (v .dcidsToRetire))
 
 -- table full: 3. Add at the end, no path
 abbrev pub append : Item → List UsedSeq → View → Out
-append x pairs v = cond (leb (dcap (v .dcidLimit)) (length (v .dcids))) (refused 3 v) (accepted (Retired pairs) (withDcids (v .dcids ++ (x ∷ [])) v))
+append x pairs v = cond (leb (capacityFor (v .dcidLimit)) (length (v .dcids))) (refused 3 v) (accepted (Retired pairs) (withDcids (v .dcids ++ (x ∷ [])) v))
 
 -- a sequence below the largest Retire Prior To and not queued: 6 if 128 stand in the queue, else queue it; 4 if the queue is then longer than 4 x limit, else success
 abbrev pub queueLate : ℕ → View → Out

@@ -1,5 +1,5 @@
 -- The view of a connection's IDs, and what a call answers.
-use Prim.Native.Nat.{ℕ, _-_, _*_}
+use Prim.Native.Nat.{ℕ}
 use mathlib.Core.List.{List}
 use mathlib.Core.Bool.{Bool}
 use mathlib.Core.Option.{Option}
@@ -27,10 +27,6 @@ pub record View : Type 0 where
   -- the source sequences to advertise, and the destination sequences to retire
   pub scidsToAdvertise : List ℕ
   pub dcidsToRetire : List ℕ
-
--- the capacity of the destination table
-abbrev pub dcap : ℕ → ℕ
-dcap dcidLimit = 2 * dcidLimit - 1
 
 -- ---- what a call answers beside the refusal's number
 

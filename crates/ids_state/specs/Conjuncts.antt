@@ -1,5 +1,5 @@
 -- docs/RULES.md, "Well-formed IDs": its sixteen conjuncts, one definition for each, and the theorem that `wellFormed` is exactly these.
-use Prim.Native.Nat.{_-_, _*_, _%_}
+use Prim.Native.Nat.{_*_, _%_}
 use mathlib.Core.Path.{_≡_, refl, sym, ap, _∙_}
 use mathlib.Core.List.{List, [], _∷_}
 use mathlib.Core.Bool.{Bool, true, false, not, _&&_, _||_}
@@ -9,7 +9,7 @@ use borrow.Author.Tests.{leb-true, ltb-true, le-leb, lt-ltb}
 use Rattle.lists.specs.Defs.{nought, all, every, pairwise}
 use Rattle.lists.specs.Bools.{and-both, conj-each}
 use Rattle.lists.specs.Every.{every-each, agree, all-and, all-same, pairwise-and}
-use Rattle.values.specs.Limits.{maxDcidLimit, maxCidsCount, minScidLimit, tableSlots, queueSlots, maxSequence}
+use Rattle.values.specs.Limits.{maxDcidLimit, maxCidsCount, minScidLimit, tableSlots, queueSlots, maxSequence, capacityFor}
 use Rattle.values.specs.Cid.{idFormed, sameId}
 use Rattle.values.specs.Token.{tokenFormed}
 use Rattle.tables.specs.Table.{live}
@@ -44,10 +44,10 @@ abbrev pub conjuncts : Ids → List Bool
 conjuncts t =
     (leb 1 (t .«dcid_limit») && leb (t .«dcid_limit») maxDcidLimit)
     ∷ (leb minScidLimit (t .«scid_limit») && leb (t .«scid_limit») maxCidsCount)
-    ∷ (eqb (t .«scid_capacity» % 2) 1 && leb (2 * t .«scid_limit» - 1) (t .«scid_capacity») && leb (t .«scid_capacity») tableSlots)
+    ∷ (eqb (t .«scid_capacity» % 2) 1 && leb (capacityFor (t .«scid_limit»)) (t .«scid_capacity») && leb (t .«scid_capacity») tableSlots)
     ∷ (leb 1 (t .scids .count) && leb (t .scids .count) (t .«scid_capacity»))
     ∷ risingBelow (t .scids) (t .«next_scid_seq»)
-    ∷ leb (t .dcids .count) (2 * t .«dcid_limit» - 1)
+    ∷ leb (t .dcids .count) (capacityFor (t .«dcid_limit»))
     ∷ pairwise otherSeq (live (t .dcids))
     ∷ pairwise otherCid (live (t .dcids))
     ∷ (all tokened (live (t .scids)) && all tokened (live (t .dcids)))
@@ -102,7 +102,7 @@ module _ (t : Ids) where
       let p = and-both (bounded (t .«dcid_limit») (t .«scid_limit») (t .«scid_capacity») (t .scids .count) (t .dcids .count) (t .«next_scid_seq») (t .«retire_prior_to») (t .«scids_to_advertise» .count) (t .«dcids_to_retire» .count)) _ w in
       let b =
       conj-each (leb 1 (t .«dcid_limit»))
-      (leb (t .«dcid_limit») maxDcidLimit ∷ leb minScidLimit (t .«scid_limit») ∷ leb (t .«scid_limit») maxCidsCount ∷ eqb (t .«scid_capacity» % 2) 1 ∷ leb (2 * t .«scid_limit» - 1) (t .«scid_capacity») ∷ leb (t .«scid_capacity») tableSlots
+      (leb (t .«dcid_limit») maxDcidLimit ∷ leb minScidLimit (t .«scid_limit») ∷ leb (t .«scid_limit») maxCidsCount ∷ eqb (t .«scid_capacity» % 2) 1 ∷ leb (capacityFor (t .«scid_limit»)) (t .«scid_capacity») ∷ leb (t .«scid_capacity») tableSlots
       ∷ leb 1 (t .scids .count) ∷ leb (t .scids .count) (t .«scid_capacity») ∷ ltb (t .dcids .count) (2 * t .«dcid_limit») ∷ leb 1 (t .«next_scid_seq») ∷ leb (t .«next_scid_seq») maxSequence ∷ leb (t .«retire_prior_to») (t .«next_scid_seq»)
       ∷ leb (t .«scids_to_advertise» .count) queueSlots ∷ leb (t .«dcids_to_retire» .count) queueSlots ∷ []) (p .0) in
       let q = conj-each (sourcesFormed (t .scids) (t .«next_scid_seq»)) (destinationsFormed (t .dcids) ∷ queueFormed (t .«scids_to_advertise») ∷ queueFormed (t .«dcids_to_retire») ∷ []) (p .1) in
@@ -111,7 +111,7 @@ module _ (t : Ids) where
       let i = items-of (live (t .scids)) (s .0) in
       let j = items-of (live (t .dcids)) (d .0) in
       let k = and-both (pairwise otherSeq (live (t .dcids))) _ (sym (apart-is (live (t .dcids))) ∙ d .1 .0) in
-      let few = le-leb (t .dcids .count) (2 * t .«dcid_limit» - 1) (omega (arith, ltb-true (t .dcids .count) (2 * t .«dcid_limit») (b .1 .1 .1 .1 .1 .1 .1 .1 .1 .0))) in
+      let few = le-leb (t .dcids .count) (capacityFor (t .«dcid_limit»)) (omega (arith, ltb-true (t .dcids .count) (2 * t .«dcid_limit») (b .1 .1 .1 .1 .1 .1 .1 .1 .1 .0))) in
       rw (
         b .0,
         b .1 .0,
@@ -148,7 +148,7 @@ module _ (t : Ids) where
       let e = every-each (conjuncts t) w in
       let c1 = and-both (leb 1 (t .«dcid_limit»)) _ (e .0) in
       let c2 = and-both (leb minScidLimit (t .«scid_limit»)) _ (e .1 .0) in
-      let c3 = conj-each (eqb (t .«scid_capacity» % 2) 1) (leb (2 * t .«scid_limit» - 1) (t .«scid_capacity») ∷ leb (t .«scid_capacity») tableSlots ∷ []) (e .1 .1 .0) in
+      let c3 = conj-each (eqb (t .«scid_capacity» % 2) 1) (leb (capacityFor (t .«scid_limit»)) (t .«scid_capacity») ∷ leb (t .«scid_capacity») tableSlots ∷ []) (e .1 .1 .0) in
       let c4 = and-both (leb 1 (t .scids .count)) _ (e .1 .1 .1 .0) in
       let c9 = and-both (all tokened (live (t .scids))) _ (e .1 .1 .1 .1 .1 .1 .1 .1 .0) in
       let c10 = and-both (leb 1 (t .«next_scid_seq»)) _ (e .1 .1 .1 .1 .1 .1 .1 .1 .1 .0) in
@@ -157,7 +157,7 @@ module _ (t : Ids) where
       let c14 = and-both (all absentZero (live (t .scids))) _ (e .1 .1 .1 .1 .1 .1 .1 .1 .1 .1 .1 .1 .1 .0) in
       let c15 = and-both (tailZero (t .scids)) _ (e .1 .1 .1 .1 .1 .1 .1 .1 .1 .1 .1 .1 .1 .1 .0) in
       let c16 = and-both (queueFormed (t .«scids_to_advertise»)) _ (e .1 .1 .1 .1 .1 .1 .1 .1 .1 .1 .1 .1 .1 .1 .1 .0) in
-      let few = lt-ltb (t .dcids .count) (2 * t .«dcid_limit») (omega (arith, leb-true (t .dcids .count) (2 * t .«dcid_limit» - 1) (e .1 .1 .1 .1 .1 .0), leb-true 1 (t .«dcid_limit») (c1 .0))) in
+      let few = lt-ltb (t .dcids .count) (2 * t .«dcid_limit») (omega (arith, leb-true (t .dcids .count) (capacityFor (t .«dcid_limit»)) (e .1 .1 .1 .1 .1 .0), leb-true 1 (t .«dcid_limit») (c1 .0))) in
       let i = items-from (live (t .scids)) (record { tokens = c9 .0; ids = c13 .0; absents = c14 .0 }) in
       let j = items-from (live (t .dcids)) (record { tokens = c9 .1; ids = c13 .1; absents = c14 .1 }) in
       let k : pairwise apart (live (t .dcids)) ≡ true = apart-is (live (t .dcids)) ∙ rw (e .1 .1 .1 .1 .1 .1 .0, e .1 .1 .1 .1 .1 .1 .1 .0) in

@@ -1,10 +1,10 @@
 -- docs/RULES.md, "Well-formed IDs": the sixteen conjuncts, by their numbers there. (Of conjunct 1, the destination capacity is no field of the state.)
-use Prim.Native.Nat.{ℕ, _-_, _*_, _%_}
+use Prim.Native.Nat.{ℕ, _*_, _%_}
 use mathlib.Core.List.{List, [], _∷_, _++_, map}
 use mathlib.Core.Bool.{Bool, not, _&&_, _||_}
 use lib.Dec.{eqb, leb, ltb}
 use Rattle.lists.specs.Defs.{nought, all, past, pairwise, rising}
-use Rattle.values.specs.Limits.{maxCidLen, tokenLen, maxDcidLimit, maxCidsCount, minScidLimit, tableSlots, queueSlots, maxSequence}
+use Rattle.values.specs.Limits.{maxCidLen, tokenLen, maxDcidLimit, maxCidsCount, minScidLimit, tableSlots, queueSlots, maxSequence, capacityFor}
 use Rattle.values.specs.Cid.{idFormed, sameId}
 use Rattle.values.specs.Token.{tokenFormed}
 use Rattle.tables.specs.Table.{live, seqOf}
@@ -61,7 +61,7 @@ bounded dcidLimit scidLimit capacity sources destinations next rpt advertised re
     && leb minScidLimit scidLimit
     && leb scidLimit maxCidsCount
     && eqb (capacity % 2) 1
-    && leb (2 * scidLimit - 1) capacity
+    && leb (capacityFor scidLimit) capacity
     && leb capacity tableSlots
     && leb 1 sources
     && leb sources capacity

@@ -14,7 +14,7 @@ use Rattle.lists.specs.Bools.{and-both, conj-each}
 use Rattle.lists.specs.Tests.{zero-or, all-more, all-done, past-all, past-is, nought-is, pair-start, pair-more, pair-done, pair-end, after-more}
 use Rattle.lists.specs.Every.{middle}
 use Rattle.lists.specs.Held.{getD-in}
-use Rattle.values.specs.Limits.{maxCidLen, tokenLen, maxDcidLimit, maxCidsCount, minScidLimit, tableSlots, queueSlots, maxSequence}
+use Rattle.values.specs.Limits.{maxCidLen, tokenLen, maxDcidLimit, maxCidsCount, minScidLimit, tableSlots, queueSlots, maxSequence, capacityFor}
 use Rattle.tables.specs.Table.{zeroItem, live, seqOf}
 use Rattle.tables.specs.declared.items.Item.{Item}
 use Rattle.tables.specs.declared.items.Table.{Table}
@@ -175,7 +175,7 @@ pub record Bounds (dcidLimit scidLimit capacity sources destinations next rpt ad
   pub scid-limit-least : minScidLimit ≤ scidLimit
   pub scid-limit-most : scidLimit ≤ maxCidsCount
   pub odd : capacity % 2 ≡ 1
-  pub capacity-least : 2 * scidLimit - 1 ≤ capacity
+  pub capacity-least : capacityFor scidLimit ≤ capacity
   pub capacity-most : capacity ≤ tableSlots
   pub sources-some : 1 ≤ sources
   pub sources-few : sources ≤ capacity
@@ -195,7 +195,7 @@ bounds-of dcidLimit scidLimit capacity sources destinations next rpt advertised 
     ∷ leb minScidLimit scidLimit
     ∷ leb scidLimit maxCidsCount
     ∷ eqb (capacity % 2) 1
-    ∷ leb (2 * scidLimit - 1) capacity
+    ∷ leb (capacityFor scidLimit) capacity
     ∷ leb capacity tableSlots
     ∷ leb 1 sources
     ∷ leb sources capacity
@@ -226,7 +226,7 @@ bounds-of dcidLimit scidLimit capacity sources destinations next rpt advertised 
       scid-limit-least = leb-true minScidLimit scidLimit (w2 .0);
       scid-limit-most = leb-true scidLimit maxCidsCount (w3 .0);
       odd = eqb-true (capacity % 2) 1 (w4 .0);
-      capacity-least = leb-true (2 * scidLimit - 1) capacity (w5 .0);
+      capacity-least = leb-true (capacityFor scidLimit) capacity (w5 .0);
       capacity-most = leb-true capacity tableSlots (w6 .0);
       sources-some = leb-true 1 sources (w7 .0);
       sources-few = leb-true sources capacity (w8 .0);

@@ -35,7 +35,7 @@ fn sources(t: Table, next: u64) -> bool
     }
     let mut acc = tables::blank();
     let mut j: usize = count;
-    while j < 31 {
+    while j < TABLE_SLOTS {
         let x = t.items[j];
         acc = rows::merge(acc, x);
         j += 1;
@@ -68,7 +68,7 @@ fn destinations(t: Table) -> bool
     }
     let mut acc = tables::blank();
     let mut j: usize = count;
-    while j < 31 {
+    while j < TABLE_SLOTS {
         let x = t.items[j];
         acc = rows::merge(acc, x);
         j += 1;

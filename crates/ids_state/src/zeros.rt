@@ -4,6 +4,7 @@ ghost use mathlib.Core.Bool.{_&&_};
 ghost use Rattle.lists.specs.Defs.{nought, past};
 ghost use Rattle.ids_state.specs.Formed.{queueFormed};
 use tables::Queue;
+use values::limits::QUEUE_SLOTS;
 
 pub fn zero20(b: [u8; 20]) -> bool
     ensures { λ r. ⌜ r ≡ past nought 20 0 b ⌝ }
@@ -48,7 +49,7 @@ fn zero128(q: [u64; 128]) -> bool
 {
     let mut acc: u64 = 0;
     let mut i: usize = 0;
-    while i < 128 {
+    while i < QUEUE_SLOTS {
         acc = acc | q[i];
         i += 1;
     }
@@ -60,7 +61,7 @@ fn queue_tail(q: Queue) -> bool
 {
     let mut acc: u64 = 0;
     let mut i: usize = q.count;
-    while i < 128 {
+    while i < QUEUE_SLOTS {
         acc = acc | q.items[i];
         i += 1;
     }

@@ -26,7 +26,7 @@ use Rattle.path.specs.ReadingLaws.{path-is}
 use Rattle.paths.specs.Reading.{view, putPaths, pathAnswerAt, pathAnswerOf, pathCall, doneAt, doneOf, doneCall, poppedCall, respondedCall}
 use Rattle.paths.specs.ReadingLaws.{tidy, view-is, formed-at}
 use Rattle.paths.specs.CallLaws.{chosen, pathAnswer, at-0, at-2, called, args-no, act-ok, act-no-known, act-refused, act-excused, doneX, poppedX, respondedX, pop-is, respond-is, send-is, respondedWith}
-use Rattle.paths.specs.Acts.{Puts}
+use Rattle.paths.specs.Acts.{Puts, PutsPopped, PutsResponded}
 use Rattle.paths.specs.declared.answers.DoneOut.{DoneOut}
 use Rattle.paths.specs.declared.answers.PoppedOut.{PoppedOut}
 use Rattle.paths.specs.declared.answers.RespondedAnswer.{RespondedAnswer}
@@ -164,11 +164,11 @@ module _ (t : Paths) (id : ℕ) (k : L.Look) (s : Seen t id k) (f g : Bool) (eg 
     no : changes → eqb n 0 ≡ false → y ≡ k .path
     no e z = e ∙ ap (λ (b : Bool). cond b (pathOf (effect (view t) q (pathView (k .path)))) (k .path)) z
 
-    leaves : (m : ℕ) → doneAt m (put y) ≡ doneCall t f (On id q) → Puts t y (k .place) (doneAt m t .answer) (doneCall t f (On id q) .paths) (doneCall t f (On id q) .answer)
+    leaves : (m : ℕ) → doneAt m (put y) ≡ doneCall t f (On id q) → Puts t y (k .place) (doneAt m t .answer) (doneCall t f (On id q))
     leaves m e = record { within = s .within; state = ap (λ (d : DoneOut). d .paths) e; answer = ap (λ (d : DoneOut). d .answer) e }
 
     -- an unknown id is refused
-    pub puts : changes → refusal (view t) id q ≡ unlessKnown id (view t) → Puts t y (k .place) (doneAt n t .answer) (doneCall t f (On id q) .paths) (doneCall t f (On id q) .answer)
+    pub puts : changes → refusal (view t) id q ≡ unlessKnown id (view t) → Puts t y (k .place) (doneAt n t .answer) (doneCall t f (On id q))
     puts e r = leaves n (go (eqb n 0) refl)
       where
         go : (b : Bool) → eqb n 0 ≡ b → doneAt n (put y) ≡ doneCall t f (On id q)
@@ -176,7 +176,7 @@ module _ (t : Paths) (id : ℕ) (k : L.Look) (s : Seen t id k) (f g : Bool) (eg 
         go false z = acted-no y doneX q (eqb-false n 0 z) (λ h. r ∙ ap (λ (b : Bool). cond b 0 2) h) (no e z)
 
     -- an unknown id is accepted
-    pub puts-excused : changes → refusal (view t) id q ≡ 0 → (m : ℕ) → m ≡ cond (eqb n 2) 0 n → Puts t y (k .place) (doneAt m t .answer) (doneCall t f (On id q) .paths) (doneCall t f (On id q) .answer)
+    pub puts-excused : changes → refusal (view t) id q ≡ 0 → (m : ℕ) → m ≡ cond (eqb n 2) 0 n → Puts t y (k .place) (doneAt m t .answer) (doneCall t f (On id q))
     puts-excused e r m em = leaves m (go (eqb n 0) refl)
       where
         go : (b : Bool) → eqb n 0 ≡ b → doneAt m (put y) ≡ doneCall t f (On id q)
@@ -192,11 +192,11 @@ module _ (t : Paths) (id : ℕ) (k : L.Look) (s : Seen t id k) (f g : Bool) (eg 
     on-server g true true w e = e
 
     pub puts-credit : (len : ℕ) → y ≡ cond (eqb n 0 && k .«is_server») (pathOf (gain (k .«anti_ampl_factor») len (pathView (k .path)))) (k .path) → (m : ℕ) → m ≡ cond (eqb n 2) 0 n
-        → Puts t y (k .place) (doneAt m t .answer) (doneCall t f (On id (Credit len)) .paths) (doneCall t f (On id (Credit len)) .answer)
+        → Puts t y (k .place) (doneAt m t .answer) (doneCall t f (On id (Credit len)))
     puts-credit len e m em = puts-excused y (Credit len) (on-server (gain (t .«anti_ampl_factor») len) (eqb n 0) (t .«is_server») look-formed (e ∙ ap₂ (λ (c : Bool) (a : ℕ). cond (eqb n 0 && c) (pathOf (gain a len (pathView (k .path)))) (k .path)) (s .server) (s .factor))) refl m em
 
     pub puts-charge : (len : ℕ) → y ≡ cond (eqb n 0 && k .«is_server») (pathOf (spend len (pathView (k .path)))) (k .path) → (m : ℕ) → m ≡ cond (eqb n 2) 0 n
-        → Puts t y (k .place) (doneAt m t .answer) (doneCall t f (On id (Charge len)) .paths) (doneCall t f (On id (Charge len)) .answer)
+        → Puts t y (k .place) (doneAt m t .answer) (doneCall t f (On id (Charge len)))
     puts-charge len e m em = puts-excused y (Charge len) (on-server (spend len) (eqb n 0) (t .«is_server») look-formed (e ∙ ap (λ (c : Bool). cond (eqb n 0 && c) (pathOf (spend len (pathView (k .path)))) (k .path)) (s .server))) refl m em
 
   -- ---- a challenge is sent
@@ -213,7 +213,7 @@ module _ (t : Paths) (id : ℕ) (k : L.Look) (s : Seen t id k) (f g : Bool) (eg 
         go true e = (look-formed e, sym (ap (λ (b : Bool). cond b (N.refusal now (pathView (k .path))) n) e) ∙ sym em ∙ eqb-true m 0 z)
         go false e = absurd (eqb-false n 0 e (sym (em ∙ ap (λ (b : Bool). cond b (N.refusal now (pathView (k .path))) n) e) ∙ eqb-true m 0 z))
 
-    pub puts-sent : (y : S.Path) → y ≡ cond (eqb m 0) (pathOf (send d size now (pathView (k .path)))) (k .path) → Puts t y (k .place) (doneAt m t .answer) (doneCall t f (On id q) .paths) (doneCall t f (On id q) .answer)
+    pub puts-sent : (y : S.Path) → y ≡ cond (eqb m 0) (pathOf (send d size now (pathView (k .path)))) (k .path) → Puts t y (k .place) (doneAt m t .answer) (doneCall t f (On id q))
     puts-sent y ey = leaves y q m (go (eqb n 0) refl (eqb m 0) refl)
       where
         m-is : (b : Bool) → eqb n 0 ≡ b → m ≡ cond b (N.refusal now (pathView (k .path))) n
@@ -245,7 +245,7 @@ module _ (t : Paths) (id : ℕ) (k : L.Look) (s : Seen t id k) (f g : Bool) (eg 
   numbered m w = record { refusal = m; present = w .present; number = w .«data» }
 
   module _ (y : S.Path) (ey : y ≡ cond (eqb n 0) (pathOf (effect (view t) Pop (pathView (k .path)))) (k .path)) (w : Waiting) (ew : w ≡ waitingOf (cond (eqb n 0) (front (pathView (k .path) .received)) none)) where
-    pub puts-popped : Puts t y (k .place) (numbered n w) (poppedCall t f (On id Pop) .paths) (poppedCall t f (On id Pop) .answer)
+    pub puts-popped : PutsPopped t y (k .place) (numbered n w) (poppedCall t f (On id Pop))
     puts-popped = record { within = s .within; state = ap (λ (d : PoppedOut). d .paths) out; answer = ap (λ (d : PoppedOut). d .answer) out }
       where
         w-is : (b : Bool) → eqb n 0 ≡ b → w ≡ waitingOf (cond b (front (pathView (k .path) .received)) none)
@@ -278,7 +278,7 @@ module _ (t : Paths) (id : ℕ) (k : L.Look) (s : Seen t id k) (f g : Bool) (eg 
     abbrev r : Act
     r = Respond d now
 
-    pub puts-responded : Puts t y (k .place) (responded m b l) (respondedCall t f (On id r) .paths) (respondedCall t f (On id r) .answer)
+    pub puts-responded : PutsResponded t y (k .place) (responded m b l) (respondedCall t f (On id r))
     puts-responded = record { within = s .within; state = ap (λ (o : RespondedOut). o .paths) out; answer = ap (λ (o : RespondedOut). o .answer) out }
       where
         made : y ≡ cond (eqb n 0) (pathOf (effect (view t) r (pathView (k .path)))) (k .path)

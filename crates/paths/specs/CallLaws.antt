@@ -15,6 +15,7 @@ use Rattle.values.specs.declared.time.Deadline.{Deadline}
 use Rattle.values.specs.declared.answers.Counted.{Counted}
 use Rattle.values.specs.declared.answers.Numbered.{Numbered}
 use Rattle.values.specs.declared.answers.Timed.{Timed}
+use Rattle.values.specs.Answers.{countedAt, numberedAt}
 use Rattle.paths_rules.specs.Calls.{refusal, Read, Act, Call, effect, seen, answer, activeOut, step, Get, Allowed, Pop, Send, Respond, Look, GetActive, On, Ask}
 use Rattle.paths_rules.specs.State.{Path}
 use Rattle.paths_rules.specs.Path.{zeroPath, validates, matched, allowed, flagged}
@@ -26,7 +27,7 @@ use Rattle.paths_state.specs.Formed.{wellFormed}
 use Rattle.paths_state.specs.declared.state.Paths.{Paths}
 use Rattle.path.specs.Reading.{pathView, pathOf}
 use Rattle.path.specs.ReadingLaws.{path-of}
-use Rattle.paths.specs.Reading.{view, putPaths, pathsOf, partsOf, countedAt, numberedAt, pathAnswerAt, foundAt, pathAnswerOf, foundOf, doneAt, poppedAt, respondedAt, checked, countedCall, pathCall}
+use Rattle.paths.specs.Reading.{view, putPaths, pathsOf, partsOf, pathAnswerAt, foundAt, pathAnswerOf, foundOf, doneAt, poppedAt, respondedAt, checked, countedCall, pathCall}
 use Rattle.paths.specs.ReadingLaws.{tidy, paths-long, view-is, path-at-is, stored-is}
 use Rattle.paths.specs.declared.answers.PathAnswer.{PathAnswer}
 use Rattle.paths.specs.declared.answers.FoundAnswer.{FoundAnswer}

@@ -4,16 +4,16 @@ use mathlib.Core.List.{List, [], map}
 use mathlib.Core.Bool.{Bool, false, cond, _&&_}
 use mathlib.Core.Option.{Option, none}
 use lib.ListN.{length}
-use Rattle.lists.specs.Defs.{present, padded}
+use Rattle.lists.specs.Defs.{padded}
 use Rattle.values.specs.Limits.{maxPaths}
 use Rattle.values.specs.Address.{pairFormed, zeroAddress}
-use Rattle.values.specs.Time.{deadlineOf}
 use Rattle.values.specs.declared.address.Address.{Address}
 use Rattle.values.specs.declared.address.FourTuple.{FourTuple}
 use Rattle.values.specs.declared.answers.Flagged.{Flagged}
 use Rattle.values.specs.declared.answers.Counted.{Counted}
 use Rattle.values.specs.declared.answers.Numbered.{Numbered}
 use Rattle.values.specs.declared.answers.Timed.{Timed}
+use Rattle.values.specs.Answers.{countedAt, flaggedAt, numberedAt, timedAt}
 use Rattle.challenges.specs.Challenges.{spansOf}
 use Rattle.paths_rules.specs.State.{Path}
 use Rattle.paths_rules.specs.Path.{zeroPath}
@@ -22,7 +22,7 @@ use Rattle.paths_rules.specs.Calls.{Call, step}
 use Rattle.paths_state.specs.declared.state.Path as S
 use Rattle.paths_state.specs.declared.state.Paths.{Paths}
 use Rattle.paths_state.specs.Formed as F
-use Rattle.path.specs.Reading.{pathView, pathOf, seqOf}
+use Rattle.path.specs.Reading.{pathView, pathOf}
 use Rattle.paths.specs.declared.answers.PathAnswer.{PathAnswer}
 use Rattle.paths.specs.declared.answers.FoundAnswer.{FoundAnswer}
 use Rattle.paths.specs.declared.answers.AddressAnswer.{AddressAnswer}
@@ -78,18 +78,6 @@ partsOf (Whole x) = partsAt 0 none false zeroAddress x []
 partsOf (Found i x) = partsAt i none false zeroAddress x []
 
 -- ---- the answers of calls that read, by refusal and part; beside a refusal every part is nothing
-
-abbrev pub countedAt : ℕ → ℕ → Counted
-countedAt refusal n = record { refusal = refusal; number = n }
-
-abbrev pub flaggedAt : ℕ → Bool → Flagged
-flaggedAt refusal b = record { refusal = refusal; flag = b }
-
-abbrev pub numberedAt : ℕ → Option ℕ → Numbered
-numberedAt refusal o = record { refusal = refusal; present = present o; number = seqOf o }
-
-abbrev pub timedAt : ℕ → Option ℕ → Timed
-timedAt refusal o = record { refusal = refusal; deadline = deadlineOf o }
 
 abbrev pub addressAt : ℕ → Address → AddressAnswer
 addressAt refusal a = record { refusal = refusal; address = a }

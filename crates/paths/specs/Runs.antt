@@ -21,6 +21,7 @@ use Rattle.values.specs.declared.answers.Flagged.{Flagged}
 use Rattle.values.specs.declared.answers.Counted.{Counted}
 use Rattle.values.specs.declared.answers.Numbered.{Numbered}
 use Rattle.values.specs.declared.answers.Timed.{Timed}
+use Rattle.values.specs.Answers.{countedAt, flaggedAt, numberedAt, timedAt}
 use Rattle.paths_rules.specs.Path.{rankValidated}
 use Rattle.paths_rules.specs.Table.{Out, freshFormed, freshCall}
 use Rattle.paths_rules.specs.Calls.{Call, callFormed, apply, run}
@@ -29,7 +30,7 @@ use Rattle.paths_state.specs.Formed.{wellFormed, seqFormed, zeroPath}
 use Rattle.paths_state.specs.declared.state.Path.{Path}
 use Rattle.paths_state.specs.declared.state.Paths.{Paths}
 use Rattle.paths.specs.Reading.{view, optionalPair, doneOf, insertedOf, poppedOf, respondedOf, countedOf, flaggedOf, numberedOf, timedOf, addressOf, pathAnswerOf, foundOf}
-use Rattle.paths.specs.Reading.{doneAt, insertedAt, poppedAt, respondedAt, countedAt, flaggedAt, numberedAt, timedAt, addressAt, pathAnswerAt, foundAt}
+use Rattle.paths.specs.Reading.{doneAt, insertedAt, poppedAt, respondedAt, addressAt, pathAnswerAt, foundAt}
 use Rattle.paths.specs.Reading.{doneCall, insertedCall, poppedCall, respondedCall, countedCall, flaggedCall, numberedCall, timedCall, addressCall, pathCall, foundCall}
 use Rattle.paths.specs.declared.answers.PathAnswer.{PathAnswer}
 use Rattle.paths.specs.declared.answers.FoundAnswer.{FoundAnswer}
@@ -504,7 +505,7 @@ OnlyCredit = (p : ℕ) (s : Paths) (c : CodeCall)
 
 -- ---- all of it
 
-pub record Held : Type 0 where
+pub record Promises : Type 0 where
   pub applies : Applies
   pub complete : Complete
   pub malformed : Malformed

@@ -35,7 +35,7 @@ use Rattle.paths.specs.Runs.{OnPathChalReceived, OnPathChalSent, OnPathR
 use Rattle.paths.specs.Runs.{Result, Done, Insertion, Popped, Response, ACount, AFlag, ANumber, ATime, AnAddress, APath, AFound}
 use Rattle.paths.specs.Runs.{Shape, ADone, AnInsertion, APopped, AResponse, Counts, Flags, Numbers, Times, Addresses, Wholes, Finds, shape, shaped, refusedAt}
 use Rattle.paths.specs.Runs.{started, argsFormed, result, stateIn, refusalIn, made, refusal, calls, viewCall, viewCalls, resultAs, Published, amountsTo, totalCredit, totalCharge, item, allowance, insertedIn, Lasts, Within, Begins, first, inserted, withListed}
-use Rattle.paths.specs.Runs.{Applies, Complete, Malformed, OnlyRefuses, LeavesNothing, KeepsWell, FreshOne, FreshWell, RunsWell, NeverOne, IsRun, IsStart, Demand3, StartingAllowance, OneRun, Frame, InsertionFrame, InsertionUnlists, OnlyVerified, OnlyCredit, Held}
+use Rattle.paths.specs.Runs.{Applies, Complete, Malformed, OnlyRefuses, LeavesNothing, KeepsWell, FreshOne, FreshWell, RunsWell, NeverOne, IsRun, IsStart, Demand3, StartingAllowance, OneRun, Frame, InsertionFrame, InsertionUnlists, OnlyVerified, OnlyCredit, Promises}
 use Rattle.paths_rules.specs.Calls as C
 use Rattle.paths_rules.specs.Path as R
 use Rattle.paths_rules.specs.State as Rec
@@ -798,7 +798,7 @@ only-credit p s c credit charge new =
 
 -- ---- all of it
 
-pub held : Held
+pub held : Promises
 held = record {
   applies = applies;
   complete = complete;

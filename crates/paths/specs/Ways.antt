@@ -13,6 +13,7 @@ use Rattle.values.specs.Limits.{maxPaths}
 use Rattle.values.specs.Address.{pairFormed}
 use Rattle.values.specs.declared.address.FourTuple.{FourTuple}
 use Rattle.values.specs.declared.answers.Numbered.{Numbered}
+use Rattle.values.specs.Answers.{numberedAt}
 use Rattle.paths_rules.specs.State.{Path}
 use Rattle.paths_rules.specs.With.{withPing}
 use Rattle.paths_rules.specs.Path.{flagged, listedAs, unused}
@@ -24,7 +25,7 @@ use Rattle.paths_state.specs.Look.{Seen}
 use Rattle.paths_state.specs.declared.state.Look.{Look}
 use Rattle.paths_state.specs.declared.state.Paths.{Paths}
 use Rattle.path.specs.Reading.{pathOf, pathView}
-use Rattle.paths.specs.Reading.{checked, doneAt, doneOf, insertedAt, insertedCall, insertedOf, numberedAt, pathsOf, putPaths, view}
+use Rattle.paths.specs.Reading.{checked, doneAt, doneOf, insertedAt, insertedCall, insertedOf, pathsOf, putPaths, view}
 use Rattle.paths.specs.ReadingLaws.{Tidy, path-at, paths-long, stored-is, tidy, view-is}
 use Rattle.paths.specs.CallLaws.{chosen, found-given, found-nothing, found-some}
 use Rattle.paths_state.specs.declared.state.Path as S
@@ -120,15 +121,15 @@ module _ (t : Paths) (k : Look) (s : Seen t 0 k) (a : FourTuple) (q : Bool) (e :
     below-ok : (k .formed && q) ≡ true
     below-ok = and-both (k .formed && q) (ltb (k .count) (k .«max_paths»)) h .0
 
-    below : t .count < t .«max_paths»
-    below = omega (arith, ltb-true (k .count) (k .«max_paths») (and-both (k .formed && q) (ltb (k .count) (k .«max_paths»)) h .1), s .count, s .limit)
+    some-room : t .count < t .«max_paths»
+    some-room = omega (arith, ltb-true (k .count) (k .«max_paths») (and-both (k .formed && q) (ltb (k .count) (k .«max_paths»)) h .1), s .count, s .limit)
 
     pub below-room : Tidy t × (t .count < maxPaths)
-    below-room = (tidy t (ok-well below-ok), room t (ok-well below-ok) below)
+    below-room = (tidy t (ok-well below-ok), room t (ok-well below-ok) some-room)
 
     pub insert-0 : (m : ℕ) (u : Paths) → u ≡ pathsOf (appended a m (view t)) → insertedAt 0 (k .count) u ≡ insertedCall t (pairFormed a) (Insert a m)
     insert-0 m u eu =
-        ap (λ (n : ℕ). insertedAt 0 n u) (s .count) ∙ insert-below t (ok-well below-ok) a m below u eu
+        ap (λ (n : ℕ). insertedAt 0 n u) (s .count) ∙ insert-below t (ok-well below-ok) a m some-room u eu
         ∙ chosen t (pairFormed a) (insertedOf (insert a m (view t))) (insertedAt 1 0 t) true (sym ok-is ∙ below-ok)
 
   pub at-full : (k .formed && q && ltb (k .count) (k .«max_paths»)) ≡ false → (k .formed && q) ≡ true → (wellFormed t ≡ true) × (t .«max_paths» ≤ t .count)

@@ -8,7 +8,7 @@ ghost use Rattle.values.specs.Time.{momentFormed};
 ghost use Rattle.paths_state.specs.Formed.{seqFormed};
 ghost use Rattle.paths_rules.specs.Calls as C;
 ghost use Rattle.paths.specs.Reading.{doneCall, poppedCall, respondedCall};
-ghost use Rattle.paths.specs.Acts.{Puts};
+ghost use Rattle.paths.specs.Acts.{Puts, PutsPopped, PutsResponded};
 use crate::answers::Placed;
 use crate::answers::PlacedNumber;
 use crate::answers::PlacedResponse;
@@ -37,7 +37,7 @@ pub fn refusal(formed: bool, id: u64, count: u64) -> u8
 
 // A challenge is asked for.
 pub fn initiate_path_chal_at(t: Paths, id: u64) -> Placed
-    ensures { λ r. ⌜ Puts t (r .path) (r .place) (r .answer) (doneCall t true (C.On id C.Initiate) .paths) (doneCall t true (C.On id C.Initiate) .answer) ⌝ }
+    ensures { λ r. ⌜ Puts t (r .path) (r .place) (r .answer) (doneCall t true (C.On id C.Initiate)) ⌝ }
 {
     let k = paths_state::look(t, id);
     let n = refusal(k.formed, id, k.count);
@@ -53,7 +53,7 @@ pub fn initiate_path_chal_at(t: Paths, id: u64) -> Placed
 
 // A PATH_CHALLENGE frame came.
 pub fn on_path_chal_received_at(t: Paths, id: u64, data: u64) -> Placed
-    ensures { λ r. ⌜ Puts t (r .path) (r .place) (r .answer) (doneCall t true (C.On id (C.Receive «data»)) .paths) (doneCall t true (C.On id (C.Receive «data»)) .answer) ⌝ }
+    ensures { λ r. ⌜ Puts t (r .path) (r .place) (r .answer) (doneCall t true (C.On id (C.Receive «data»))) ⌝ }
 {
     let k = paths_state::look(t, id);
     let n = refusal(k.formed, id, k.count);
@@ -70,7 +70,7 @@ pub fn on_path_chal_received_at(t: Paths, id: u64, data: u64) -> Placed
 
 // Bytes came: a server's credit on a path that is not verified rises by factor x length.
 pub fn inc_anti_ampl_limit_at(t: Paths, id: u64, length: u64) -> Placed
-    ensures { λ r. ⌜ Puts t (r .path) (r .place) (r .answer) (doneCall t true (C.On id (C.Credit length)) .paths) (doneCall t true (C.On id (C.Credit length)) .answer) ⌝ }
+    ensures { λ r. ⌜ Puts t (r .path) (r .place) (r .answer) (doneCall t true (C.On id (C.Credit length))) ⌝ }
 {
     let k = paths_state::look(t, id);
     let n = refusal(k.formed, id, k.count);
@@ -87,7 +87,7 @@ pub fn inc_anti_ampl_limit_at(t: Paths, id: u64, length: u64) -> Placed
 
 // Bytes were sent: the credit falls by the length.
 pub fn dec_anti_ampl_limit_at(t: Paths, id: u64, length: u64) -> Placed
-    ensures { λ r. ⌜ Puts t (r .path) (r .place) (r .answer) (doneCall t true (C.On id (C.Charge length)) .paths) (doneCall t true (C.On id (C.Charge length)) .answer) ⌝ }
+    ensures { λ r. ⌜ Puts t (r .path) (r .place) (r .answer) (doneCall t true (C.On id (C.Charge length))) ⌝ }
 {
     let k = paths_state::look(t, id);
     let n = refusal(k.formed, id, k.count);
@@ -104,7 +104,7 @@ pub fn dec_anti_ampl_limit_at(t: Paths, id: u64, length: u64) -> Placed
 
 // The source sequence that the path uses, or none: then it is 0.
 pub fn set_scid_seq_at(t: Paths, id: u64, has_seq: bool, seq: u64) -> Placed
-    ensures { λ r. ⌜ Puts t (r .path) (r .place) (r .answer) (doneCall t (seqFormed «has_seq» seq) (C.On id (C.SetScid (given «has_seq» seq))) .paths) (doneCall t (seqFormed «has_seq» seq) (C.On id (C.SetScid (given «has_seq» seq))) .answer) ⌝ }
+    ensures { λ r. ⌜ Puts t (r .path) (r .place) (r .answer) (doneCall t (seqFormed «has_seq» seq) (C.On id (C.SetScid (given «has_seq» seq)))) ⌝ }
 {
     let k = paths_state::look(t, id);
     let f = has_seq | (seq == 0);
@@ -121,7 +121,7 @@ pub fn set_scid_seq_at(t: Paths, id: u64, has_seq: bool, seq: u64) -> Placed
 
 // The destination sequence that the path uses, or none: then it is 0.
 pub fn set_dcid_seq_at(t: Paths, id: u64, has_seq: bool, seq: u64) -> Placed
-    ensures { λ r. ⌜ Puts t (r .path) (r .place) (r .answer) (doneCall t (seqFormed «has_seq» seq) (C.On id (C.SetDcid (given «has_seq» seq))) .paths) (doneCall t (seqFormed «has_seq» seq) (C.On id (C.SetDcid (given «has_seq» seq))) .answer) ⌝ }
+    ensures { λ r. ⌜ Puts t (r .path) (r .place) (r .answer) (doneCall t (seqFormed «has_seq» seq) (C.On id (C.SetDcid (given «has_seq» seq)))) ⌝ }
 {
     let k = paths_state::look(t, id);
     let f = has_seq | (seq == 0);
@@ -138,7 +138,7 @@ pub fn set_dcid_seq_at(t: Paths, id: u64, has_seq: bool, seq: u64) -> Placed
 
 // The active flag.
 pub fn set_active_at(t: Paths, id: u64, on: bool) -> Placed
-    ensures { λ r. ⌜ Puts t (r .path) (r .place) (r .answer) (doneCall t true (C.On id (C.SetActive on)) .paths) (doneCall t true (C.On id (C.SetActive on)) .answer) ⌝ }
+    ensures { λ r. ⌜ Puts t (r .path) (r .place) (r .answer) (doneCall t true (C.On id (C.SetActive on))) ⌝ }
 {
     let k = paths_state::look(t, id);
     let n = refusal(k.formed, id, k.count);
@@ -154,7 +154,7 @@ pub fn set_active_at(t: Paths, id: u64, on: bool) -> Placed
 
 // The peer's address is verified.
 pub fn mark_verified_at(t: Paths, id: u64) -> Placed
-    ensures { λ r. ⌜ Puts t (r .path) (r .place) (r .answer) (doneCall t true (C.On id C.Verify) .paths) (doneCall t true (C.On id C.Verify) .answer) ⌝ }
+    ensures { λ r. ⌜ Puts t (r .path) (r .place) (r .answer) (doneCall t true (C.On id C.Verify)) ⌝ }
 {
     let k = paths_state::look(t, id);
     let n = refusal(k.formed, id, k.count);
@@ -170,7 +170,7 @@ pub fn mark_verified_at(t: Paths, id: u64) -> Placed
 
 // The oldest challenge received is taken out: the answer is its data.
 pub fn pop_recv_chal_at(t: Paths, id: u64) -> PlacedNumber
-    ensures { λ r. ⌜ Puts t (r .path) (r .place) (r .answer) (poppedCall t true (C.On id C.Pop) .paths) (poppedCall t true (C.On id C.Pop) .answer) ⌝ }
+    ensures { λ r. ⌜ PutsPopped t (r .path) (r .place) (r .answer) (poppedCall t true (C.On id C.Pop)) ⌝ }
 {
     let k = paths_state::look(t, id);
     let n = refusal(k.formed, id, k.count);
@@ -191,7 +191,7 @@ pub fn pop_recv_chal_at(t: Paths, id: u64) -> PlacedNumber
 
 // A PATH_CHALLENGE frame was sent in a packet of that size.
 pub fn on_path_chal_sent_at(t: Paths, id: u64, data: u64, size: u64, sent: Moment) -> Placed
-    ensures { λ r. ⌜ Puts t (r .path) (r .place) (r .answer) (doneCall t (momentFormed (sent .us)) (C.On id (C.Send «data» size (sent .us))) .paths) (doneCall t (momentFormed (sent .us)) (C.On id (C.Send «data» size (sent .us))) .answer) ⌝ }
+    ensures { λ r. ⌜ Puts t (r .path) (r .place) (r .answer) (doneCall t (momentFormed (sent .us)) (C.On id (C.Send «data» size (sent .us)))) ⌝ }
 {
     let k = paths_state::look(t, id);
     let f = values::moment_formed(sent);
@@ -208,7 +208,7 @@ pub fn on_path_chal_sent_at(t: Paths, id: u64, data: u64, size: u64, sent: Momen
 
 // A PATH_RESPONSE frame came: the answer is whether the path is now Validated, and a span for each challenge that it matched.
 pub fn on_path_resp_received_at(t: Paths, id: u64, data: u64, now: Moment) -> PlacedResponse
-    ensures { λ r. ⌜ Puts t (r .path) (r .place) (r .answer) (respondedCall t (momentFormed (now .us)) (C.On id (C.Respond «data» (now .us))) .paths) (respondedCall t (momentFormed (now .us)) (C.On id (C.Respond «data» (now .us))) .answer) ⌝ }
+    ensures { λ r. ⌜ PutsResponded t (r .path) (r .place) (r .answer) (respondedCall t (momentFormed (now .us)) (C.On id (C.Respond «data» (now .us)))) ⌝ }
 {
     let k = paths_state::look(t, id);
     let f = values::moment_formed(now);

@@ -4,10 +4,11 @@ ghost use mathlib.Core.Bool.{true};
 ghost use mathlib.Core.Option.{some};
 ghost use Rattle.lists.specs.Defs.{firstWith};
 ghost use Rattle.values.specs.Time.{deadlineOf};
+ghost use Rattle.values.specs.Answers.{numberedAt};
 ghost use Rattle.paths_state.specs.Formed.{wellFormed};
 ghost use Rattle.paths_rules.specs.Path as R;
 ghost use Rattle.paths_rules.specs.Table as T;
-ghost use Rattle.paths.specs.Reading.{numberedAt, view};
+ghost use Rattle.paths.specs.Reading.{view};
 ghost use Rattle.paths.specs.TableLaws.{earlierOf};
 use crate::blanks;
 use paths_state::Paths;
@@ -15,6 +16,7 @@ use values::Deadline;
 use values::FourTuple;
 use values::Moment;
 use values::Numbered;
+use values::limits::PATH_SLOTS;
 use values::refusals::ACCEPTED;
 
 fn place(i: usize) -> Numbered
@@ -33,7 +35,7 @@ pub fn first_flagged(t: Paths) -> Numbered
     ensures { λ r. ⌜ r ≡ numberedAt 0 (firstWith R.flagged (view t .paths)) ⌝ }
 {
     let mut i: usize = 0;
-    while i < 8 {
+    while i < PATH_SLOTS {
         let x = t.items[i];
         if x.active {
             return place(i);

@@ -209,13 +209,13 @@ abbrev Forgets : Path → Type 0
 Forgets x = (x .rank ≤ rankValidated) × (x .rank < rankValidated → x .largest < smallestSize)
 
 forgets-timeout : (now : ℕ) (x : Path) → Forgets x → Forgets (timeout now x)
-forgets-timeout now x k = decided Forgets (probing x) (λ e. let w = expire-holds Q (λ v y h. h) (λ y h. h) (λ n y h. h) (λ y h. (omega arith, h .1)) now (x .sent) x (k .0, k .1 (below (x .rank) e)) in (w .0, λ r. w .1)) (λ e. k)
+forgets-timeout now x k = decided Forgets (probing x) (λ e. let w = expire-holds Q (λ v y h. h) (λ y h. h) (λ n y h. h) (λ y h. (omega arith, h .1)) now (x .sent) x (k .0, k .1 (unvalidated (x .rank) e)) in (w .0, λ r. w .1)) (λ e. k)
   where
     Q : Path → Type 0
     Q y = (y .rank ≤ rankValidated) × (y .largest < smallestSize)
 
-    below : (r : ℕ) → (eqb r rankValidating || eqb r rankValidatingMTU) ≡ true → r < rankValidated
-    below r e = test (eqb r rankValidating) (eqb r rankValidatingMTU) refl refl e
+    unvalidated : (r : ℕ) → (eqb r rankValidating || eqb r rankValidatingMTU) ≡ true → r < rankValidated
+    unvalidated r e = test (eqb r rankValidating) (eqb r rankValidatingMTU) refl refl e
       where
         test : (a b : Bool) → eqb r rankValidating ≡ a → eqb r rankValidatingMTU ≡ b → (a || b) ≡ true → r < rankValidated
         test true b g h e = omega (arith, eqb-true r rankValidating g)

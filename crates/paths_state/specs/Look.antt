@@ -74,8 +74,8 @@ module _ (t : Paths) (b : Bool) (eb : b ≡ bounded (t .«max_paths») (t .count
           server = ap (λ (x : Look). x .«is_server») e;
           within = let q : r .place ≡ at = ap (λ (x : Look). x .place) e in omega (arith, q, placed-in);
           path = ap (λ (x : Look). x .path) e ∙ ap (λ (m : ℕ). getD (t .items) m zeroPath) (sym (ap (λ (x : Look). x .place) e));
-          here = λ f h. ap (λ (x : Look). x .place) e ∙ ea ∙ ap (λ (x : Bool). cond x id 0) (lt-ltb id n (below (and-both b _ (sym (ap (λ (x : Look). x .formed) e) ∙ f) .0) h));
+          here = λ f h. ap (λ (x : Look). x .place) e ∙ ea ∙ ap (λ (x : Bool). cond x id 0) (lt-ltb id n (inside (and-both b _ (sym (ap (λ (x : Look). x .formed) e) ∙ f) .0) h));
         }
       where
-        below : b ≡ true → id < t .count → id < n
-        below p h = let q : n ≡ t .count = en ∙ ap (λ (x : Bool). cond x (t .count) 0) p in omega (arith, q, h)
+        inside : b ≡ true → id < t .count → id < n
+        inside p h = let q : n ≡ t .count = en ∙ ap (λ (x : Bool). cond x (t .count) 0) p in omega (arith, q, h)

@@ -26,7 +26,7 @@ fn received_formed(q: Received) -> bool
     let count = q.count;
     let mut tail: u64 = 0;
     let mut i: usize = 0;
-    while i < 8 {
+    while i < MAX_PATH_CHALS_RECV {
         let w = q.items[i];
         let v = past_count(i, count, w);
         tail = tail | v;
@@ -44,7 +44,7 @@ fn sent_formed(s: Sent) -> bool
     let mut tail: u64 = 0;
     let mut late: u64 = 0;
     let mut i: usize = 0;
-    while i < 16 {
+    while i < MAX_PATH_CHALS_SENT {
         let x = s.items[i];
         let m = values::moment_bits(x.sent, x.deadline);
         let w = x.data | x.size | m;

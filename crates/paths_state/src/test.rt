@@ -9,6 +9,7 @@ use crate::state::Look;
 use crate::state::Paths;
 use crate::zeros;
 use values::limits::MAX_PATHS;
+use values::limits::PATH_SLOTS;
 
 // The count of the paths to go over: none where they are not to be gone over.
 pub fn counted(b: bool, count: usize) -> usize
@@ -51,7 +52,7 @@ pub fn look(t: Paths, id: u64) -> Look
     }
     let mut none = true;
     let mut j: usize = count;
-    while j < 8 {
+    while j < PATH_SLOTS {
         let v = t.items[j];
         let z = zeros::zero_path(v);
         none = none & z;

@@ -6,13 +6,15 @@ ghost use Rattle.paths_state.specs.Formed.{noAddress, noChallenge, noMar
 use crate::state::Path;
 use challenges::Challenge;
 use values::Address;
+use values::limits::MAX_PATH_CHALS_RECV;
+use values::limits::MAX_PATH_CHALS_SENT;
 
 pub fn zero_data(a: [u64; 8]) -> bool
     ensures { λ r. ⌜ r ≡ past nought maxPathChalsRecv 0 a ⌝ }
 {
     let mut acc: u64 = 0;
     let mut i: usize = 0;
-    while i < 8 {
+    while i < MAX_PATH_CHALS_RECV {
         acc = acc | a[i];
         i += 1;
     }
@@ -24,7 +26,7 @@ pub fn zero_challenges(a: [Challenge; 16]) -> bool
 {
     let mut acc: u64 = 0;
     let mut i: usize = 0;
-    while i < 16 {
+    while i < MAX_PATH_CHALS_SENT {
         let x = a[i];
         let m = values::moment_bits(x.sent, x.deadline);
         let w = x.data | x.size | m;

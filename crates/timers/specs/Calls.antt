@@ -1,13 +1,14 @@
 -- The published calls of the timers: refusal 1 where the table is not well formed, the timer is none of the nine, or the moment is too late; then nothing changed.
 use Prim.Native.Nat.{ℕ}
 use mathlib.Core.Bool.{Bool, false, cond, _&&_}
-use mathlib.Core.Option.{Option, none}
+use mathlib.Core.Option.{none}
 use lib.Dec.{ltb}
 use Rattle.values.specs.Limits.{timerCount}
 use Rattle.values.specs.declared.time.Moment.{Moment}
 use Rattle.values.specs.declared.answers.Flagged.{Flagged}
 use Rattle.values.specs.declared.answers.Timed.{Timed}
-use Rattle.values.specs.Time.{momentFormed, deadlineOf}
+use Rattle.values.specs.Time.{momentFormed}
+use Rattle.values.specs.Answers.{flaggedAt, timedAt}
 use Rattle.timers.specs.declared.table.TimerTable.{TimerTable}
 use Rattle.timers.specs.declared.table.TimersOut.{TimersOut}
 use Rattle.timers.specs.Timers.{wellFormed, view, timersOf, freshTimers, setTimer, stopTimer, getTimer, nextTimeout, expired}
@@ -19,12 +20,6 @@ isTimer timer = ltb timer timerCount
 
 abbrev pub outAt : ℕ → TimerTable → TimersOut
 outAt refusal t = record { timers = t; answer = record { refusal = refusal } }
-
-abbrev pub timedAt : ℕ → Option ℕ → Timed
-timedAt refusal d = record { refusal = refusal; deadline = deadlineOf d }
-
-abbrev pub flaggedAt : ℕ → Bool → Flagged
-flaggedAt refusal b = record { refusal = refusal; flag = b }
 
 -- ---- the calls
 

@@ -15,10 +15,11 @@ use Rattle.values.specs.declared.time.Moment.{Moment}
 use Rattle.values.specs.declared.answers.Flagged.{Flagged}
 use Rattle.values.specs.declared.answers.Timed.{Timed}
 use Rattle.values.specs.Time.{momentFormed}
+use Rattle.values.specs.Answers.{flaggedAt, timedAt}
 use Rattle.timers.specs.declared.table.TimerTable.{TimerTable}
 use Rattle.timers.specs.declared.table.TimersOut.{TimersOut}
 use Rattle.timers.specs.Timers.{Timers, wellFormed, view, freshTimers, setTimer, stopTimer}
-use Rattle.timers.specs.Calls.{isTimer, outAt, timedAt, flaggedAt, freshCall, setCall, getCall, stopCall, nextTimeoutCall, isExpiredCall, clearCall}
+use Rattle.timers.specs.Calls.{isTimer, outAt, freshCall, setCall, getCall, stopCall, nextTimeoutCall, isExpiredCall, clearCall}
 
 -- ---- the published calls, in the order of src/calls.rt: three that change the table, three that read it, and fresh, which takes nothing and gives `freshCall`
 
@@ -128,7 +129,7 @@ IsRun = (t : TimerTable) (cs : List CodeCall) → wellFormed t ≡ true → view
 
 -- ---- all of it
 
-pub record Held : Type 0 where
+pub record Promises : Type 0 where
   pub malformed : Malformed
   pub accepted : Accepted
   pub keepsWell : KeepsWell

@@ -9,12 +9,13 @@ use Rattle.lists.specs.Bools.{and-both}
 use Rattle.lists.specs.Defs.{keep}
 use Rattle.values.specs.declared.time.Moment.{Moment}
 use Rattle.values.specs.Time.{momentFormed}
+use Rattle.values.specs.Answers.{flaggedAt, timedAt}
 use Rattle.timers.specs.declared.table.TimerTable.{TimerTable}
 use Rattle.timers.specs.Timers.{Timers, wellFormed, view, timersOf, freshTimers, setTimer, stopTimer, getTimer, nextTimeout, expired}
-use Rattle.timers.specs.Calls.{isTimer, outAt, timedAt, flaggedAt, freshCall}
+use Rattle.timers.specs.Calls.{isTimer, outAt, freshCall}
 use Rattle.timers.specs.Laws.{view-of, fresh-formed, set-formed, stop-formed}
 use Rattle.timers.specs.Runs.{CodeCall, Set, Get, Stop, NextTimeout, IsExpired, Clear, argsFormed, Result, Done, ATime, AFlag, result, stateIn, refusalIn, made, refusal, calls, refusedAt}
-use Rattle.timers.specs.Runs.{Malformed, Accepted, KeepsWell, RunsWell, NeverOne, step, run, IsRun, Held}
+use Rattle.timers.specs.Runs.{Malformed, Accepted, KeepsWell, RunsWell, NeverOne, step, run, IsRun, Promises}
 
 -- ---- one call, by whether the test passes
 
@@ -147,7 +148,7 @@ is-run t (c ∷ cs) w = is-run (made t c) cs (keeps-well t c w) ∙ test (argsFo
 
 -- ---- all of it
 
-pub held : Held
+pub held : Promises
 held = record {
   malformed = malformed;
   accepted = accepted;

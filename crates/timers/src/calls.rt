@@ -1,7 +1,8 @@
 // The published calls, in the order of the Rust's TimerTable, and `clear`. Each tests the table and its arguments first: what is not of its form is refused
 // with 1.
 ghost use mathlib.Core.Path.{_≡_};
-ghost use Rattle.timers.specs.Calls.{clearCall, freshCall, getCall, isExpiredCall, nextTimeoutCall, setCall, stopCall, timedAt};
+ghost use Rattle.values.specs.Answers.{timedAt};
+ghost use Rattle.timers.specs.Calls.{clearCall, freshCall, getCall, isExpiredCall, nextTimeoutCall, setCall, stopCall};
 ghost use mathlib.Core.Option.{none};
 use crate::formed;
 use crate::steps;

@@ -1,6 +1,6 @@
 -- A call that stores one element of the lent `Paths`: `fn f(t: &mut Paths, p: P, ..) -> R { let a = g(*t, p, ..); let i = a.place; let y = a.path; t.items[i] = y; a.answer }`. See `lent`'s `Change.antt`.
 -- The state behind the reference is copied whole and passed to g; then it is taken apart to the element, and put together (`PathsCells.antt`), at which the borrow is closed.
--- Of g it is known that it gives the place, which lies within the list, and the element to put there (`Puts`).
+-- Of g it is known that it gives the place, which lies within the list, and the element to put there (`Stored`).
 -- Assumes nothing.
 use mathlib.Core.Path.{_≡_, refl, sym, ap, subst}
 use Prim.Native.Nat.{ℕ, suc, _+_}
@@ -23,11 +23,11 @@ use denote.Steps.{only, opens, closes, owned, peeks, facts, heard, nothing}
 use denote.Struct.Steps.{spelt}
 use denote.Triple.Call.{calls-at}
 use denote.Triple.Clauses.{ensured}
-use Rattle.paths.specs.Acts.{Puts}
+use Rattle.paths.specs.Acts.{Stored}
 use Rattle.paths_state.specs.declared.state.Paths.{Paths}
 use Rattle.paths_state.proofs.state.Path as Pathᵀ
 use Rattle.paths_state.proofs.state.Path.Laws as Pathᴸ
-use Rattle.vignorasc.specs.PathsCells.{R as E, elems, put, elems-set, times, below, still-long, Back, apart, whole}
+use Rattle.vignorasc.specs.PathsCells.{R as E, elems, put, elems-set, times, inside, still-long, Back, apart, whole}
 use Rattle.lent.specs.Kind.{Kind, row, Sort, kind, Part, Args, Ts, out, back, told, count, past, locals, copies, past-is, alloc-all, pass-all, forget-all, free-all, found, found-at, part, opds-at, loads}
 use Rattle.vignorasc.proofs.Sorts.{u64, paths, path}
 use Rattle.lent.specs.Change.{Call, g-ended, g-clauses, G, got-of, p, b-args, to-g, goes-g, exits, its, Walked, Theorem, keeps}
@@ -51,7 +51,7 @@ module _ (Ps : List Kind) (A : Sort) (R : Kind) (parts : Placing A R) {O : Type 
     R = R;
     answer = parts .answer;
     stored = stored;
-    Says = λ h x r. Puts h (parts .item .get r) (parts .at .get r) (parts .answer .get r) (leaves (answered h x)) (gives (answered h x));
+    Says = λ h x r. Stored h (parts .item .get r) (parts .at .get r) (parts .answer .get r) (leaves (answered h x)) (gives (answered h x));
     Ends = Ends;
     ends = λ h x r e. ends h x (parts .answer .get r) (stored h r) (e .answer) (e .state);
   }
@@ -103,12 +103,12 @@ module _ (Ps : List Kind) (A : Sort) (R : Kind) (parts : Placing A R) {O : Type 
       rewrite ! 7 (λ (n : ℕ). ‵ (fat fullShare tyPtr l8 0 (vptr b n))) (sym (place-is 712 (o + 0) (parts .at .get r))) refl $
       -- the state is taken apart, and one element out
       use1 W (‵ (fat fullShare (kind paths .τ) b o (kind paths .val h))) (W .laws .raw-at fullShare (kind paths .τ) b o (kind paths .val h)) $ use1 W (‵ (elements E fullShare (elems (h .items)) b (o + 0)) ⊛ raw (all 𝓤 (Back 𝓤 H Aₜ W b o h))) (apart 𝓤 H Aₜ W b o h was) $ split ! $
-      elem-out ! E (Is E) (shows 𝓤 H Aₜ E) (λ y. Pathᴸ.the-field-laws .val y ∷ []) (Pathᴸ.the-field-laws .tells) fullShare (elems (h .items)) (parts .at .get r) (Pathᵀ.the-field .into (parts .item .get r)) b (o + 0) (below h was (parts .at .get r) (e .within)) (λ _.
+      elem-out ! E (Is E) (shows 𝓤 H Aₜ E) (λ y. Pathᴸ.the-field-laws .val y ∷ []) (Pathᴸ.the-field-laws .tells) fullShare (elems (h .items)) (parts .at .get r) (Pathᵀ.the-field .into (parts .item .get r)) b (o + 0) (inside h was (parts .at .get r) (e .within)) (λ _.
       assigns ! (of-opd ! (load ! (found ! (past-is Ps bs _ 2 _)) (look ! 18 refl))) (found-at ! (past-is Ps bs _ 6 _) (hop ! (look ! 10 refl) (stop !))) (store-raw ! 0 refl (kind path .typed 𝓤 H Aₜ W (parts .item .get r) _ (parts .item .ok r (its placed r v got)) .0)) $
       assigns ! (of-opd ! (part ! 22 A R (parts .answer) r (past-is Ps bs _ 0 _) refl)) (from ! (stop !)) (init ! 26 refl (R .typed 𝓤 H Aₜ W (parts .answer .get r) _ (parts .answer .ok r (its placed r v got)) .0)) $
       -- it is put back, the state is put together, and the borrow is closed
       move ! (1 ∷ []) $ drop ! $ owned ! (row (kind path)) (Is (row (kind path))) (kind path .makes 𝓤 H Aₜ W) (parts .item .get r) _ (parts .item .ok r (its placed r v got)) $ move ! (1 ∷ 0 ∷ []) $
-      elem-put ! E fullShare (elems (h .items)) (parts .at .get r) (Pathᵀ.the-field .into (parts .item .get r)) (kind path .val (parts .item .get r) ∷ []) b (o + 0) (below h was (parts .at .get r) (e .within)) $
+      elem-put ! E fullShare (elems (h .items)) (parts .at .get r) (Pathᵀ.the-field .into (parts .item .get r)) (kind path .val (parts .item .get r) ∷ []) b (o + 0) (inside h was (parts .at .get r) (e .within)) $
       rewrite ! 0 (λ (ys : List (E .Denot)). ‵ (elements E fullShare ys b (o + 0))) (elems-set (h .items) (parts .at .get r) (parts .item .get r)) refl $
       use2 W (given (Is (row (kind paths)) (stored h r) (kind paths .val (stored h r) ∷ [])) (‵ (fat fullShare (kind paths .τ) b o (kind paths .val (stored h r))))) (whole 𝓤 H Aₜ W b o h was (set (h .items) (parts .at .get r) (parts .item .get r)) (still-long h was (parts .at .get r) (parts .item .get r))) $ learn ! (λ made.
       use1 W (‵ (cellAt fullShare (kind paths .τ ∷ []) (kind paths .val (stored h r) ∷ []) b o)) (W .laws .at-raw fullShare (kind paths .τ) b o (kind paths .val (stored h r))) $

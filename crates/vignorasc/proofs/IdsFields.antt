@@ -1,11 +1,11 @@
--- A call that stores fields of the lent `Ids`, where the callee gives those that it may change, and the answer: `lent`'s `Store.antt`, at `Leaves`.
+-- A call that stores fields of the lent `Ids`, where the callee gives those that it may change, and the answer: `lent`'s `Store.antt`, at `Left`.
 -- Assumes nothing.
 use mathlib.Core.Path.{_≡_}
 use mathlib.Core.List.{List}
 use Rattle.lent.specs.Kind.{Kind, Sort, kind, Fields, Part, Args}
 use Rattle.lent.specs.Change.{Call, Theorem}
 use Rattle.lent.specs.Store.{Move, fields, left, code, stores-by}
-use Rattle.ids.specs.Acts.{Leaves}
+use Rattle.ids.specs.Acts.{Left}
 use Rattle.ids_state.specs.declared.state.Ids.{Ids}
 use Rattle.vignorasc.proofs.Sorts.{ids}
 
@@ -19,7 +19,7 @@ module _ (Ps : List Kind) (A : Sort) (R : Kind) (answer : Part A R) (ms : List (
     R = R;
     answer = answer;
     stored = stored;
-    Says = λ h x r. Leaves (stored h r) (leaves (answered h x)) (answer .get r) (gives (answered h x));
+    Says = λ h x r. Left (stored h r) (leaves (answered h x)) (answer .get r) (gives (answered h x));
     Ends = Ends;
     ends = λ h x r e. ends h x (answer .get r) (stored h r) (e .answer) (e .state);
   }

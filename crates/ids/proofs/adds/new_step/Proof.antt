@@ -7,7 +7,7 @@ use borrow.Author.Needs.{needs}
 use Rattle.ids_rules.specs.Steps.{addNew}
 use Rattle.ids.specs.Reading.{itemView, view, retiredOf}
 use Rattle.ids.specs.ReadingLaws.{retire-well}
-use Rattle.ids.specs.Acts.{held, retiredIn}
+use Rattle.ids.specs.Acts.{stateOf, retiredIn}
 use Rattle.ids.specs.AddWays.{new-is}
 use Rattle.ids.specs.AddLaws.{keeps}
 use Rattle.ids.proofs.adds.new_step.Statement.{statement}
@@ -19,10 +19,10 @@ no-pairs-requires c κs = search needs
 returns : tie.Need-returns
 returns c =
     let a = c .before .before .before .args in
-    λ h. keeps (held h) (h .well) 4 (addNew (itemView (a .x)) (a .b) (view (held h))) (new-is (itemView (a .x)) (a .b) (view (held h)) true _ _ (lt-ltb _ _ (c .before .if1 .taken)) refl refl) _ (ap (retiredIn (held h)) (c .no-pairs .ensures))
+    λ h. keeps (stateOf h) (h .well) 4 (addNew (itemView (a .x)) (a .b) (view (stateOf h))) (new-is (itemView (a .x)) (a .b) (view (stateOf h)) true _ _ (lt-ltb _ _ (c .before .if1 .taken)) refl refl) _ (ap (retiredIn (stateOf h)) (c .no-pairs .ensures))
 
 queue-has-requires : tie.Need-queue-has-requires
-queue-has-requires c κs = let h = c .before .before .pre .0 in retire-well (held h) (h .well)
+queue-has-requires c κs = let h = c .before .before .pre .0 in retire-well (stateOf h) (h .well)
 
 late-step-requires : tie.Need-late-step-requires
 late-step-requires c κs = search needs
@@ -32,7 +32,7 @@ returns-2 c =
     let s = c .before .before .before .before .before in
     let a = s .args in
     let late = ap (λ (h : Bool). ltb (a .x .seq) (a .largest) && not h) (sym (c .before .before .queue-has .ensures)) in
-    λ h. c .late-step .ensures h ∙ sym (ap retiredOf (new-is (itemView (a .x)) (a .b) (view (held h)) false true _ (le-ltb _ _ (c .before .before .before .if1 .left)) (late ∙ c .before .if2 .taken) refl))
+    λ h. c .late-step .ensures h ∙ sym (ap retiredOf (new-is (itemView (a .x)) (a .b) (view (stateOf h)) false true _ (le-ltb _ _ (c .before .before .before .if1 .left)) (late ∙ c .before .if2 .taken) refl))
 
 raise-step-requires : tie.Need-raise-step-requires
 raise-step-requires c κs = search needs
@@ -42,7 +42,7 @@ returns-3 c =
     let s = c .before .before .before .before .before .before in
     let a = s .args in
     let late = ap (λ (h : Bool). ltb (a .x .seq) (a .largest) && not h) (sym (c .before .before .before .queue-has .ensures)) in
-    λ h. c .raise-step .ensures h ∙ sym (ap retiredOf (new-is (itemView (a .x)) (a .b) (view (held h)) false false true (le-ltb _ _ (c .before .before .before .before .if1 .left)) (late ∙ c .before .before .if2 .left) (lt-ltb _ _ (c .before .if3 .taken))))
+    λ h. c .raise-step .ensures h ∙ sym (ap retiredOf (new-is (itemView (a .x)) (a .b) (view (stateOf h)) false false true (le-ltb _ _ (c .before .before .before .before .if1 .left)) (late ∙ c .before .before .if2 .left) (lt-ltb _ _ (c .before .if3 .taken))))
 
 append-step-requires : tie.Need-append-step-requires
 append-step-requires c κs = search needs
@@ -52,7 +52,7 @@ returns-4 c =
     let s = c .before .before .before .before .before .before in
     let a = s .args in
     let late = ap (λ (h : Bool). ltb (a .x .seq) (a .largest) && not h) (sym (c .before .before .before .queue-has .ensures)) in
-    λ h. c .append-step .ensures h ∙ sym (ap retiredOf (new-is (itemView (a .x)) (a .b) (view (held h)) false false false (le-ltb _ _ (c .before .before .before .before .if1 .left)) (late ∙ c .before .before .if2 .left) (le-ltb _ _ (c .before .if3 .left))))
+    λ h. c .append-step .ensures h ∙ sym (ap retiredOf (new-is (itemView (a .x)) (a .b) (view (stateOf h)) false false false (le-ltb _ _ (c .before .before .before .before .if1 .left)) (late ∙ c .before .before .if2 .left) (le-ltb _ _ (c .before .if3 .left))))
 
 pub new-step-spec : {M : Type 1} → statement M
 new-step-spec = tie.close (tie.spec no-pairs-requires returns queue-has-requires late-step-requires returns-2 raise-step-requires returns-3 append-step-requires returns-4)

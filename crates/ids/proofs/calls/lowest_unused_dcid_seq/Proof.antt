@@ -3,8 +3,9 @@ use mathlib.Core.Path.{sym, _∙_}
 use mathlib.Core.Bool.{true, false}
 use mathlib.Core.Option.{none}
 use borrow.Author.Needs.{needs}
+use Rattle.values.specs.Answers.{numberedAt}
 use Rattle.ids_rules.specs.Calls.{reply, LowestUnusedDcidSeq}
-use Rattle.ids.specs.Reading.{view, numberedAt, numberedOf}
+use Rattle.ids.specs.Reading.{view, numberedOf}
 use Rattle.ids.specs.ReadingLaws.{destination-well}
 use Rattle.ids.specs.CallLaws.{chosen, state-test}
 use Rattle.ids.proofs.calls.lowest_unused_dcid_seq.Statement.{statement}

@@ -2,8 +2,9 @@
 use mathlib.Core.Path.{sym, ap, _∙_}
 use mathlib.Core.Bool.{true, false}
 use borrow.Author.Needs.{needs}
+use Rattle.values.specs.Answers.{flaggedAt}
 use Rattle.ids_rules.specs.Calls.{reply, NeedSendCidControlFrames}
-use Rattle.ids.specs.Reading.{view, flaggedAt, flaggedOf}
+use Rattle.ids.specs.Reading.{view, flaggedOf}
 use Rattle.ids.specs.CallLaws.{chosen, state-test, any-entry}
 use Rattle.ids.proofs.calls.need_send_cid_control_frames.Statement.{statement}
 use Rattle.ids.proofs.calls.need_send_cid_control_frames.Tie as tie

@@ -2,8 +2,9 @@
 use mathlib.Core.Path.{sym, _∙_}
 use mathlib.Core.Bool.{true, false}
 use borrow.Author.Needs.{needs}
+use Rattle.values.specs.Answers.{countedAt}
 use Rattle.ids_rules.specs.Calls.{reply, UnusedDcids}
-use Rattle.ids.specs.Reading.{view, countedAt, countedOf}
+use Rattle.ids.specs.Reading.{view, countedOf}
 use Rattle.ids.specs.ReadingLaws.{destination-well}
 use Rattle.ids.specs.CallLaws.{chosen, state-test, zero-dcids}
 use Rattle.ids.proofs.calls.unused_dcids.Statement.{statement}

@@ -2,8 +2,9 @@
 use mathlib.Core.Path.{_∙_}
 use mathlib.Core.Bool.{true, false}
 use borrow.Author.Needs.{needs}
+use Rattle.values.specs.Answers.{flaggedAt}
 use Rattle.ids_rules.specs.Calls.{reply, ZeroLengthScid}
-use Rattle.ids.specs.Reading.{view, flaggedAt, flaggedOf}
+use Rattle.ids.specs.Reading.{view, flaggedOf}
 use Rattle.ids.specs.CallLaws.{chosen, state-test}
 use Rattle.ids.proofs.calls.zero_length_scid.Statement.{statement}
 use Rattle.ids.proofs.calls.zero_length_scid.Tie as tie

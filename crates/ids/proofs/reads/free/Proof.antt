@@ -1,9 +1,10 @@
 -- What is unused of the view is what is free of the items.
 use mathlib.Core.Path.{sym, ap, _∙_}
 use borrow.Author.Needs.{needs}
+use Rattle.values.specs.Answers.{countedAt}
 use Rattle.ids_rules.specs.Values.{unused}
 use Rattle.tables.specs.Table.{live, free}
-use Rattle.ids.specs.Reading.{itemView, countedAt}
+use Rattle.ids.specs.Reading.{itemView}
 use Rattle.ids.specs.Carry.{count-view, unused-view}
 use Rattle.ids.proofs.reads.free.Statement.{statement}
 use Rattle.ids.proofs.reads.free.Tie as tie

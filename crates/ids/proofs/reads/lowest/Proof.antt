@@ -2,10 +2,10 @@
 use mathlib.Core.Path.{sym, ap, _∙_}
 use borrow.Author.Needs.{needs}
 use Rattle.lists.specs.Defs.{least}
+use Rattle.values.specs.Answers.{numberedAt}
 use Rattle.ids_rules.specs.Values.{unused}
 use Rattle.tables.specs.Table.{live, free}
 use Rattle.tables.specs.Laws.{lowest-at, lowest-none}
-use Rattle.ids.specs.Reading.{numberedAt}
 use Rattle.ids.specs.Carry.{unused-view, seqs-kept}
 use Rattle.ids.proofs.reads.lowest.Statement.{statement}
 use Rattle.ids.proofs.reads.lowest.Tie as tie

@@ -2,13 +2,14 @@
 use mathlib.Core.Path.{refl, ap, _∙_}
 use mathlib.Core.Bool.{false}
 use borrow.Author.Needs.{needs}
+use Rattle.values.specs.Answers.{flaggedAt}
 use Rattle.paths_rules.specs.State.{Path}
 use Rattle.paths_rules.specs.Path.{inUse}
 use Rattle.paths_rules.specs.Table.{pathAt}
 use Rattle.paths_rules.specs.Calls.{Active}
 use Rattle.path.specs.Reading.{pathView}
 use Rattle.path.specs.ReadingLaws.{path-of}
-use Rattle.paths.specs.Reading.{view, flaggedAt, flaggedOf}
+use Rattle.paths.specs.Reading.{view, flaggedOf}
 use Rattle.paths.specs.CallLaws.{read-is}
 use Rattle.paths.proofs.calls.active.Statement.{statement}
 use Rattle.paths.proofs.calls.active.Tie as tie

@@ -5,9 +5,10 @@ use mathlib.Core.Option.{none}
 use borrow.Author.Needs.{needs}
 use Rattle.lists.specs.Bools.{and-both}
 use Rattle.values.specs.Address.{pairFormed}
+use Rattle.values.specs.Answers.{numberedAt}
 use Rattle.paths_rules.specs.Calls.{step, IdOf, Ask}
 use Rattle.paths_state.specs.Formed.{wellFormed}
-use Rattle.paths.specs.Reading.{view, numberedAt, numberedOf}
+use Rattle.paths.specs.Reading.{view, numberedOf}
 use Rattle.paths.specs.CallLaws.{chosen, arg-test}
 use Rattle.paths.proofs.calls.get_path_id.Statement.{statement}
 use Rattle.paths.proofs.calls.get_path_id.Tie as tie

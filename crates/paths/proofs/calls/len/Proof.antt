@@ -2,8 +2,9 @@
 use mathlib.Core.Path.{sym, ap, _∙_}
 use mathlib.Core.Bool.{true, false}
 use borrow.Author.Needs.{needs}
+use Rattle.values.specs.Answers.{countedAt}
 use Rattle.paths_rules.specs.Calls.{Ask, Len, step}
-use Rattle.paths.specs.Reading.{countedAt, countedOf, view}
+use Rattle.paths.specs.Reading.{countedOf, view}
 use Rattle.paths.specs.ReadingLaws.{paths-long, tidy}
 use Rattle.paths.specs.CallLaws.{chosen, state-test}
 use Rattle.paths.proofs.calls.len.Statement.{statement}

@@ -3,8 +3,9 @@ use mathlib.Core.Path.{sym, ap, _∙_}
 use mathlib.Core.Bool.{true, false}
 use mathlib.Core.Option.{none}
 use borrow.Author.Needs.{needs}
+use Rattle.values.specs.Answers.{timedAt}
 use Rattle.paths_rules.specs.Calls.{step, Timer, Ask}
-use Rattle.paths.specs.Reading.{view, timedAt, timedOf}
+use Rattle.paths.specs.Reading.{view, timedOf}
 use Rattle.paths.specs.CallLaws.{chosen, state-test, timedWith}
 use Rattle.paths.proofs.calls.min_path_chal_timer.Statement.{statement}
 use Rattle.paths.proofs.calls.min_path_chal_timer.Tie as tie

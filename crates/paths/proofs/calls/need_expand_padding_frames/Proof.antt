@@ -2,10 +2,11 @@
 use mathlib.Core.Path.{refl, sym, ap, ap₂, _∙_}
 use mathlib.Core.Bool.{true, false, and-true}
 use borrow.Author.Needs.{needs}
+use Rattle.values.specs.Answers.{flaggedAt}
 use Rattle.paths_state.specs.Formed.{wellFormed}
 use Rattle.paths_rules.specs.Path.{needsPadding, zeroPath}
 use Rattle.paths_rules.specs.Calls.{NeedsPadding}
-use Rattle.paths.specs.Reading.{flaggedAt, flaggedOf, pathAnswerAt}
+use Rattle.paths.specs.Reading.{flaggedOf, pathAnswerAt}
 use Rattle.paths.specs.CallLaws.{got-view, pathAnswer, read-0, read-no}
 use Rattle.paths.specs.ActLaws.{got-0, got-no}
 use Rattle.paths.proofs.calls.need_expand_padding_frames.Statement.{statement}

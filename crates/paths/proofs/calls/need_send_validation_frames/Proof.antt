@@ -3,10 +3,11 @@ use mathlib.Core.Path.{refl, sym, ap, ap₂, _∙_}
 use mathlib.Core.Bool.{true, false, and-true}
 use borrow.Author.Needs.{needs}
 use borrow.Author.Tests.{eq-eqb}
+use Rattle.values.specs.Answers.{flaggedAt}
 use Rattle.paths_state.specs.Formed.{wellFormed}
 use Rattle.paths_rules.specs.Path.{needsFrames, zeroPath}
 use Rattle.paths_rules.specs.Calls.{NeedsFrames}
-use Rattle.paths.specs.Reading.{flaggedAt, flaggedOf, pathAnswerAt}
+use Rattle.paths.specs.Reading.{flaggedOf, pathAnswerAt}
 use Rattle.paths.specs.CallLaws.{got-view, pathAnswer, read-0, read-no}
 use Rattle.paths.specs.ActLaws.{got-0, got-no, look-formed}
 use Rattle.paths.proofs.calls.need_send_validation_frames.Statement.{statement}

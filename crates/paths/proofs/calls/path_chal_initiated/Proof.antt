@@ -2,8 +2,9 @@
 use mathlib.Core.Path.{refl}
 use mathlib.Core.Bool.{false}
 use borrow.Author.Needs.{needs}
+use Rattle.values.specs.Answers.{flaggedAt}
 use Rattle.paths_rules.specs.Calls.{Initiated}
-use Rattle.paths.specs.Reading.{flaggedAt, flaggedOf}
+use Rattle.paths.specs.Reading.{flaggedOf}
 use Rattle.paths.specs.CallLaws.{read-is}
 use Rattle.paths.proofs.calls.path_chal_initiated.Statement.{statement}
 use Rattle.paths.proofs.calls.path_chal_initiated.Tie as tie

@@ -1,8 +1,9 @@
 -- What `get` answers, read: nothing of a refusal's zero path is seen.
 use mathlib.Core.Path.{refl, ap, _∙_}
 use borrow.Author.Needs.{needs}
+use Rattle.values.specs.Answers.{countedAt}
 use Rattle.paths_rules.specs.Calls.{State}
-use Rattle.paths.specs.Reading.{countedAt, countedOf}
+use Rattle.paths.specs.Reading.{countedOf}
 use Rattle.paths.specs.CallLaws.{read-is}
 use Rattle.paths.proofs.calls.state.Statement.{statement}
 use Rattle.paths.proofs.calls.state.Tie as tie

@@ -2,9 +2,10 @@
 use mathlib.Core.Path.{refl, ap, _∙_}
 use mathlib.Core.Bool.{false}
 use borrow.Author.Needs.{needs}
+use Rattle.values.specs.Answers.{flaggedAt}
 use Rattle.paths_rules.specs.Calls.{Validated}
 use Rattle.path.specs.Reading.{pathView}
-use Rattle.paths.specs.Reading.{flaggedAt, flaggedOf}
+use Rattle.paths.specs.Reading.{flaggedOf}
 use Rattle.paths.specs.CallLaws.{read-is}
 use Rattle.paths_rules.specs.Path as R
 use Rattle.paths.proofs.calls.validated.Statement.{statement}

@@ -8,8 +8,8 @@ use borrow.Author.Needs.{needs}
 use Rattle.lists.specs.Defs.{firstWith}
 use Rattle.lists.specs.Search.{first-hit, first-more}
 use Rattle.values.specs.Limits.{maxPaths}
+use Rattle.values.specs.Answers.{numberedAt}
 use Rattle.paths_rules.specs.Path.{flagged}
-use Rattle.paths.specs.Reading.{numberedAt}
 use Rattle.paths.specs.ReadingLaws.{tidy, items-long}
 use Rattle.paths.specs.TableLaws.{passes, found-all}
 use Rattle.paths.proofs.search.first_flagged.Statement.{statement}

@@ -6,8 +6,8 @@ use native.Mathlib.Omega.{arith}
 use lib.ListN.{take}
 use borrow.Author.Needs.{needs}
 use Rattle.lists.specs.Defs.{firstWith}
+use Rattle.values.specs.Answers.{numberedAt}
 use Rattle.paths_rules.specs.Path.{listedAs}
-use Rattle.paths.specs.Reading.{numberedAt}
 use Rattle.paths.specs.ReadingLaws.{tidy}
 use Rattle.paths.specs.TableLaws.{passes, found-is, found-more, found-none}
 use Rattle.paths.proofs.search.first_listed.Statement.{statement}

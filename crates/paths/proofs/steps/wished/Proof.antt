@@ -3,7 +3,7 @@ use mathlib.Core.Path.{sym, ap, _∙_}
 use mathlib.Core.Bool.{Bool, cond}
 use borrow.Author.Tests.{eq-eqb, ne-eqb}
 use borrow.Author.Needs.{needs}
-use Rattle.paths.specs.Reading.{countedAt}
+use Rattle.values.specs.Answers.{countedAt}
 use Rattle.paths.proofs.steps.wished.Statement.{statement}
 use Rattle.paths.proofs.steps.wished.Tie as tie
 

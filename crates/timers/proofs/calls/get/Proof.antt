@@ -7,8 +7,9 @@ use borrow.Author.Tests.{ltb-true}
 use Rattle.lists.specs.Bools.{and-both}
 use Rattle.values.specs.declared.time.Deadline.{Deadline}
 use Rattle.values.specs.declared.answers.Timed.{Timed}
+use Rattle.values.specs.Answers.{timedAt}
 use Rattle.timers.specs.Timers.{view, getTimer}
-use Rattle.timers.specs.Calls.{isTimer, timedAt}
+use Rattle.timers.specs.Calls.{isTimer}
 use Rattle.timers.proofs.calls.get.Statement.{statement}
 use Rattle.timers.proofs.calls.get.Tie as tie
 

@@ -4,8 +4,9 @@ use mathlib.Core.Bool.{Bool, false, cond, _&&_}
 use borrow.Author.Needs.{needs}
 use borrow.Author.Tests.{ltb-true}
 use Rattle.lists.specs.Bools.{and-both}
+use Rattle.values.specs.Answers.{flaggedAt}
 use Rattle.timers.specs.Timers.{view, expired}
-use Rattle.timers.specs.Calls.{isTimer, flaggedAt}
+use Rattle.timers.specs.Calls.{isTimer}
 use Rattle.timers.proofs.calls.is_expired.Statement.{statement}
 use Rattle.timers.proofs.calls.is_expired.Tie as tie
 

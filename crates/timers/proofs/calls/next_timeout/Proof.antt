@@ -5,8 +5,8 @@ use mathlib.Core.Option.{none}
 use borrow.Author.Needs.{needs}
 use Rattle.values.specs.declared.time.Deadline.{Deadline}
 use Rattle.values.specs.declared.answers.Timed.{Timed}
+use Rattle.values.specs.Answers.{timedAt}
 use Rattle.timers.specs.Timers.{view, nextTimeout}
-use Rattle.timers.specs.Calls.{timedAt}
 use Rattle.timers.proofs.calls.next_timeout.Statement.{statement}
 use Rattle.timers.proofs.calls.next_timeout.Tie as tie
 
