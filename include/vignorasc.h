@@ -209,7 +209,7 @@ typedef struct vig_frame_answer {
     uint64_t seq;
     uint64_t retire_prior_to;
     vig_connection_id cid;
-    uint8_t token[16];
+    vig_reset_token token;
 } vig_frame_answer;
 
 /* A sequence, and the path that used it. */

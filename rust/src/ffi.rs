@@ -164,7 +164,7 @@ structs! {
         seq: u64,
         retire_prior_to: u64,
         cid: ConnectionId,
-        token: [u8; 16],
+        token: ResetToken,
     }
 
     UsedSeq {

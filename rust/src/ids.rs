@@ -175,7 +175,7 @@ impl Ids {
             seq: a.seq,
             retire_prior_to: a.retire_prior_to,
             cid: ConnectionId(a.cid),
-            token: ResetToken(a.token),
+            token: ResetToken(a.token.bytes),
         })
     }
 

@@ -25,8 +25,8 @@ use Rattle.ids.specs.declared.answers.RetiredOut.{RetiredOut}
 use Rattle.ids.specs.declared.answers.IssuedParts.{IssuedParts}
 use Rattle.ids.specs.declared.answers.FreedParts.{FreedParts}
 use Rattle.ids.specs.declared.answers.RetiredParts.{RetiredParts}
-use Rattle.ids.specs.declared.answers.TableOut.{TableOut}
-use Rattle.ids.specs.declared.answers.QueueOut.{QueueOut}
+use Rattle.ids.specs.declared.answers.TableParts.{TableParts}
+use Rattle.ids.specs.declared.answers.QueueParts.{QueueParts}
 
 -- u, the state with the fields put in, is s, and the answer a is b
 pub record Left {A : Type 0} (u s : Ids) (a b : A) : Type 0 where
@@ -88,17 +88,17 @@ Gives t q largest dcidLimit r f = (h : FromState t q largest dcidLimit) → reti
 
 -- ---- the marks, on one table or one queue
 
-abbrev pub tableAt : ℕ → Table → TableOut
+abbrev pub tableAt : ℕ → Table → TableParts
 tableAt refusal t = record { table = t; answer = record { refusal = refusal } }
 
-abbrev pub queueAt : ℕ → Queue → QueueOut
+abbrev pub queueAt : ℕ → Queue → QueueParts
 queueAt refusal q = record { queue = q; answer = record { refusal = refusal } }
 
 -- the item at the place is put on the path; 2 if there is no place
-abbrev pub usedAt : ℕ → Table → Option ℕ → TableOut
+abbrev pub usedAt : ℕ → Table → Option ℕ → TableParts
 usedAt path t none = tableAt 2 t
 usedAt path t (some i) = tableAt 0 (tableOf (set (live t) i (onPath path (getD (live t) i zeroItem))))
 
 -- the sequence is marked; 6 if the queue is full
-abbrev pub markedAt : ℕ → Bool → Queue → (full : Bool) → QueueOut
+abbrev pub markedAt : ℕ → Bool → Queue → (full : Bool) → QueueParts
 markedAt seq on q full = cond full (queueAt 6 q) (queueAt 0 (queueOf (marked seq on (entries q))))

@@ -24,8 +24,8 @@ use Rattle.ids.specs.Carry.{any-at, any-none, seqsApart, apart-seqs, ris
 use Rattle.ids.specs.Puts.{putSource, putDestination, putAdvertise, putRetire}
 use Rattle.ids.specs.Acts.{doneIn, usedAt, markedAt}
 use Rattle.ids.specs.declared.answers.DoneOut.{DoneOut}
-use Rattle.ids.specs.declared.answers.TableOut.{TableOut}
-use Rattle.ids.specs.declared.answers.QueueOut.{QueueOut}
+use Rattle.ids.specs.declared.answers.TableParts.{TableParts}
+use Rattle.ids.specs.declared.answers.QueueParts.{QueueParts}
 use Rattle.tables.specs.Table as T
 use Rattle.tables.specs.declared.items.Item as I
 
@@ -41,10 +41,10 @@ module _ (s : Ids) (w : wellFormed s ≡ true) where
     abbrev markAt : Bool → Out
     markAt b = cond b (refused 6 (view s)) (accepted Nothing (new (marked seq on (entries q)) (view s)))
 
-    mark-is : (r : QueueOut) → r ≡ markedAt seq on q (on && leb queueSlots (q .count)) → doneIn (put (r .queue) s) (r .answer) ≡ doneOf (markAt (on && leb queueSlots (length (entries q))))
+    mark-is : (r : QueueParts) → r ≡ markedAt seq on q (on && leb queueSlots (q .count)) → doneIn (put (r .queue) s) (r .answer) ≡ doneOf (markAt (on && leb queueSlots (length (entries q))))
     mark-is r e = ap leaves e ∙ go (on && leb queueSlots (q .count)) (ap (λ (n : ℕ). on && leb queueSlots n) long)
       where
-        leaves : QueueOut → DoneOut
+        leaves : QueueParts → DoneOut
         leaves x = doneIn (put (x .queue) s) (x .answer)
 
         go : (b : Bool) → (on && leb queueSlots (length (entries q))) ≡ b → leaves (markedAt seq on q b) ≡ doneOf (markAt (on && leb queueSlots (length (entries q))))
@@ -54,10 +54,10 @@ module _ (s : Ids) (w : wellFormed s ≡ true) where
             ∙ sym (ap (λ (b : Bool). doneOf (markAt b)) t)
 
   module _ (seq : ℕ) (on : Bool) where
-    pub advertise-is : (r : QueueOut) → r ≡ markedAt seq on (s .«scids_to_advertise») (on && leb queueSlots (s .«scids_to_advertise» .count)) → doneIn (putAdvertise (r .queue) s) (r .answer) ≡ doneOf (markScidToAdvertise seq on (view s))
+    pub advertise-is : (r : QueueParts) → r ≡ markedAt seq on (s .«scids_to_advertise») (on && leb queueSlots (s .«scids_to_advertise» .count)) → doneIn (putAdvertise (r .queue) s) (r .answer) ≡ doneOf (markScidToAdvertise seq on (view s))
     advertise-is = mark-is (s .«scids_to_advertise») putAdvertise withScidsToAdvertise refl (λ l. refl) (advertise-long s w) seq on
 
-    pub retire-is : (r : QueueOut) → r ≡ markedAt seq on (s .«dcids_to_retire») (on && leb queueSlots (s .«dcids_to_retire» .count)) → doneIn (putRetire (r .queue) s) (r .answer) ≡ doneOf (markDcidToRetire seq on (view s))
+    pub retire-is : (r : QueueParts) → r ≡ markedAt seq on (s .«dcids_to_retire») (on && leb queueSlots (s .«dcids_to_retire» .count)) → doneIn (putRetire (r .queue) s) (r .answer) ≡ doneOf (markDcidToRetire seq on (view s))
     retire-is = mark-is (s .«dcids_to_retire») putRetire withDcidsToRetire refl (λ l. refl) (retire-long s w) seq on
 
   -- ---- no two items of a table have the same sequence
@@ -75,10 +75,10 @@ module _ (s : Ids) (w : wellFormed s ≡ true) where
     abbrev useAt : Bool → Out
     useAt b = cond b (accepted Nothing (new (used seq path (map itemView (live t))) (view s))) (refused 2 (view s))
 
-    use-is : (r : TableOut) → r ≡ usedAt path t (firstWith (T.hasSeq seq) (live t)) → doneIn (put (r .table) s) (r .answer) ≡ doneOf (useAt (any (hasSeq seq) (map itemView (live t))))
+    use-is : (r : TableParts) → r ≡ usedAt path t (firstWith (T.hasSeq seq) (live t)) → doneIn (put (r .table) s) (r .answer) ≡ doneOf (useAt (any (hasSeq seq) (map itemView (live t))))
     use-is r e = ap leaves e ∙ go (firstWith (T.hasSeq seq) (live t)) refl
       where
-        leaves : TableOut → DoneOut
+        leaves : TableParts → DoneOut
         leaves x = doneIn (put (x .table) s) (x .answer)
 
         go : (o : Option ℕ) → firstWith (T.hasSeq seq) (live t) ≡ o → leaves (usedAt path t o) ≡ doneOf (useAt (any (hasSeq seq) (map itemView (live t))))
@@ -89,8 +89,8 @@ module _ (s : Ids) (w : wellFormed s ≡ true) where
             ∙ sym (ap (λ (b : Bool). doneOf (useAt b)) (any-at itemView (hasSeq seq) (T.hasSeq seq) (λ x. refl) (live t) i p))
 
   module _ (seq path : ℕ) where
-    pub scid-used-is : (r : TableOut) → r ≡ usedAt path (s .scids) (firstWith (T.hasSeq seq) (live (s .scids))) → doneIn (putSource (r .table) s) (r .answer) ≡ doneOf (markScidUsed seq path (view s))
+    pub scid-used-is : (r : TableParts) → r ≡ usedAt path (s .scids) (firstWith (T.hasSeq seq) (live (s .scids))) → doneIn (putSource (r .table) s) (r .answer) ≡ doneOf (markScidUsed seq path (view s))
     scid-used-is = use-is (s .scids) putSource withScids refl (λ l. refl) (scids-back s w) scids-apart seq path
 
-    pub dcid-used-is : (r : TableOut) → r ≡ usedAt path (s .dcids) (firstWith (T.hasSeq seq) (live (s .dcids))) → doneIn (putDestination (r .table) s) (r .answer) ≡ doneOf (markDcidUsed seq path (view s))
+    pub dcid-used-is : (r : TableParts) → r ≡ usedAt path (s .dcids) (firstWith (T.hasSeq seq) (live (s .dcids))) → doneIn (putDestination (r .table) s) (r .answer) ≡ doneOf (markDcidUsed seq path (view s))
     dcid-used-is = use-is (s .dcids) putDestination withDcids refl (λ l. refl) (dcids-back s w) dcids-apart seq path

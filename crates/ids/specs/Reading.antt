@@ -131,8 +131,8 @@ foundAt refusal none = record { refusal = refusal; present = false; «has_path»
 foundAt refusal (some f) = record { refusal = refusal; present = true; «has_path» = present (f .path); seq = f .seq; path = pathOf (f .path) }
 
 abbrev pub frameAt : ℕ → Option Fields → FrameAnswer
-frameAt refusal none = record { refusal = refusal; seq = 0; «retire_prior_to» = 0; cid = zeroId; token = replicate tokenLen 0 }
-frameAt refusal (some f) = record { refusal = refusal; seq = f .seq; «retire_prior_to» = f .retirePriorTo; cid = f .cid; token = f .token }
+frameAt refusal none = record { refusal = refusal; seq = 0; «retire_prior_to» = 0; cid = zeroId; token = record { bytes = replicate tokenLen 0 } }
+frameAt refusal (some f) = record { refusal = refusal; seq = f .seq; «retire_prior_to» = f .retirePriorTo; cid = f .cid; token = record { bytes = f .token } }
 
 abbrev pub countedOf : Reply → Counted
 countedOf r = countedAt (r .refusal) (partsOf (r .answer) .number)

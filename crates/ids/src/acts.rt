@@ -10,11 +10,11 @@ ghost use Rattle.ids.specs.Reading.{doneCall, freedCall, issuedCall, pat
 ghost use Rattle.ids.specs.Puts.{putAdvertise, putDestination, putInitial, putIssued, putLimit, putRetire, putSource, putSourceRpt};
 ghost use Rattle.ids.specs.Acts.{FreedLeaves, IssuedLeaves, Leaves};
 use crate::answers::FreedParts;
-use crate::answers::InitialOut;
+use crate::answers::InitialParts;
 use crate::answers::IssuedParts;
-use crate::answers::LimitOut;
-use crate::answers::QueueOut;
-use crate::answers::TableOut;
+use crate::answers::LimitParts;
+use crate::answers::QueueParts;
+use crate::answers::TableParts;
 use crate::issues;
 use crate::marks;
 use crate::starts;
@@ -32,7 +32,7 @@ pub fn set_initial_dcid_at(
     token: Token,
     has_path: bool,
     path: u64,
-) -> InitialOut
+) -> InitialParts
     ensures { λ r. ⌜ Leaves (putInitial (r .dcids) (r .«zero_length_dcid») s) (r .answer) (doneCall s (idFormed cid && tokenFormed token && pathFormed «has_path» path) (C.SetInitialDcid cid (tokenView token) (given «has_path» path))) ⌝ }
 {
     let f = ids_state::formed(s);
@@ -41,14 +41,14 @@ pub fn set_initial_dcid_at(
     let args = c & k & (has_path | (path == 0));
     if f & args {
         let t = starts::only(cid, token, has_path, path);
-        return InitialOut {
+        return InitialParts {
             dcids: t,
             zero_length_dcid: cid.len == 0,
             answer: Done { refusal: ACCEPTED },
         };
     }
     let t = s.dcids;
-    InitialOut {
+    InitialParts {
         dcids: t,
         zero_length_dcid: s.zero_length_dcid,
         answer: Done { refusal: MALFORMED },
@@ -56,20 +56,20 @@ pub fn set_initial_dcid_at(
 }
 
 // The most source IDs that the peer allows, clamped to 2..16.
-pub fn set_scid_limit_at(s: Ids, n: u64) -> LimitOut
+pub fn set_scid_limit_at(s: Ids, n: u64) -> LimitParts
     ensures { λ r. ⌜ Leaves (putLimit (r .«scid_limit») (r .«scid_capacity») s) (r .answer) (doneCall s true (C.SetScidLimit n)) ⌝ }
 {
     if ids_state::formed(s) {
         let limit = starts::clamped(n);
         let wide = starts::capacity_for(limit) as usize;
         let capacity = starts::larger(s.scid_capacity, wide);
-        return LimitOut {
+        return LimitParts {
             scid_limit: limit,
             scid_capacity: capacity,
             answer: Done { refusal: ACCEPTED },
         };
     }
-    LimitOut {
+    LimitParts {
         scid_limit: s.scid_limit,
         scid_capacity: s.scid_capacity,
         answer: Done { refusal: MALFORMED },
@@ -77,7 +77,7 @@ pub fn set_scid_limit_at(s: Ids, n: u64) -> LimitOut
 }
 
 // The source item is used by the path.
-pub fn mark_scid_used_at(s: Ids, seq: u64, path: u64) -> TableOut
+pub fn mark_scid_used_at(s: Ids, seq: u64, path: u64) -> TableParts
     ensures { λ r. ⌜ Leaves (putSource (r .table) s) (r .answer) (doneCall s true (C.MarkScidUsed seq path)) ⌝ }
 {
     let t = s.scids;
@@ -89,7 +89,7 @@ pub fn mark_scid_used_at(s: Ids, seq: u64, path: u64) -> TableOut
 }
 
 // The destination item is used by the path.
-pub fn mark_dcid_used_at(s: Ids, seq: u64, path: u64) -> TableOut
+pub fn mark_dcid_used_at(s: Ids, seq: u64, path: u64) -> TableParts
     ensures { λ r. ⌜ Leaves (putDestination (r .table) s) (r .answer) (doneCall s true (C.MarkDcidUsed seq path)) ⌝ }
 {
     let t = s.dcids;
@@ -137,7 +137,7 @@ pub fn retire_scid_at(s: Ids, seq: u64, packet: ConnectionId) -> FreedParts
 }
 
 // The source sequence is to be announced, or no longer.
-pub fn mark_scid_to_advertise_at(s: Ids, seq: u64, on: bool) -> QueueOut
+pub fn mark_scid_to_advertise_at(s: Ids, seq: u64, on: bool) -> QueueParts
     ensures { λ r. ⌜ Leaves (putAdvertise (r .queue) s) (r .answer) (doneCall s true (C.MarkScidToAdvertise seq on)) ⌝ }
 {
     let q = s.scids_to_advertise;
@@ -149,7 +149,7 @@ pub fn mark_scid_to_advertise_at(s: Ids, seq: u64, on: bool) -> QueueOut
 }
 
 // The destination sequence is to be retired, or no longer.
-pub fn mark_dcid_to_retire_at(s: Ids, seq: u64, on: bool) -> QueueOut
+pub fn mark_dcid_to_retire_at(s: Ids, seq: u64, on: bool) -> QueueParts
     ensures { λ r. ⌜ Leaves (putRetire (r .queue) s) (r .answer) (doneCall s true (C.MarkDcidToRetire seq on)) ⌝ }
 {
     let q = s.dcids_to_retire;

@@ -57,6 +57,7 @@ fn late_step(t: Table, q: Queue, largest: u64, dcid_limit: u64, seq: u64) -> Ret
     let p = tables::queue_push(q, seq);
     let most = RETIRE_FACTOR * dcid_limit;
     let n = p.count as u64;
+    // 5.1.2: more IDs in need of retirement than are tracked may be an error. Here above 4 x the limit.
     if most < n {
         return no_pairs(t, p, largest, PROTOCOL_VIOLATION);
     }
@@ -69,6 +70,7 @@ fn append_step(t: Table, q: Queue, largest: u64, dcid_limit: u64, x: Item) -> Re
 {
     let most = starts::capacity_for(dcid_limit);
     let n = t.count as u64;
+    // 5.1.1: more active IDs than the limit is an error. Here the table holds 2 x limit - 1.
     if most <= n {
         return no_pairs(t, q, largest, CONNECTION_ID_LIMIT_ERROR);
     }
@@ -81,6 +83,7 @@ fn raise_step(t: Table, q: Queue, largest: u64, dcid_limit: u64, x: Item, b: u64
     requires { ⌜ FromState t q largest «dcid_limit» × (itemFormed x ≡ true) ⌝ }
     ensures { λ r. ⌜ Gives t q largest «dcid_limit» r (S.raise (itemView x) b) ⌝ }
 {
+    // 19.15, 5.1.2: lower sequences are retired before the new ID is added.
     let kept = tables::keep_from(t, b);
     let lower = t.count - kept.count;
     let total = q.count + lower;
@@ -90,11 +93,13 @@ fn raise_step(t: Table, q: Queue, largest: u64, dcid_limit: u64, x: Item, b: u64
     let moved = tables::queue_lower(t, b, q);
     let most = RETIRE_FACTOR * dcid_limit;
     let n = moved.count as u64;
+    // 5.1.2, as above.
     if most < n {
         return no_pairs(kept, moved, b, PROTOCOL_VIOLATION);
     }
     let room = starts::capacity_for(dcid_limit);
     let k = kept.count as u64;
+    // 5.1.1, after retiring.
     if room <= k {
         return no_pairs(kept, moved, b, CONNECTION_ID_LIMIT_ERROR);
     }
@@ -115,15 +120,18 @@ fn new_step(t: Table, q: Queue, largest: u64, dcid_limit: u64, x: Item, b: u64) 
     requires { ⌜ FromState t q largest «dcid_limit» × (itemFormed x ≡ true) ⌝ }
     ensures { λ r. ⌜ Gives t q largest «dcid_limit» r (S.addNew (itemView x) b) ⌝ }
 {
+    // 19.15: a Retire Prior To above the sequence is an error.
     if x.seq < b {
         return no_pairs(t, q, largest, PROTOCOL_VIOLATION);
     }
+    // 19.15: a sequence below an earlier Retire Prior To is retired at once, unless it already was.
     let seq = x.seq;
     let has = tables::queue_has(q, seq);
     let late = (seq < largest) & !has;
     if late {
         return late_step(t, q, largest, dcid_limit, seq);
     }
+    // 19.15: a Retire Prior To that doesn't raise the largest is ignored.
     if largest < b {
         return raise_step(t, q, largest, dcid_limit, x, b);
     }
@@ -136,6 +144,7 @@ pub fn add_dcid_step(s: Ids, cid: ConnectionId, seq: u64, token: [u8; 16], b: u6
 {
     let t = s.dcids;
     let q = s.dcids_to_retire;
+    // 19.15: to an endpoint that sends with a zero-length ID the frame is an error.
     if s.zero_length_dcid {
         return no_pairs(t, q, s.largest_peer_retire_prior_to, PROTOCOL_VIOLATION);
     }
@@ -149,6 +158,7 @@ pub fn add_dcid_step(s: Ids, cid: ConnectionId, seq: u64, token: [u8; 16], b: u6
         },
         has_path: false,
     };
+    // 19.15: the same frame again is no error; an ID or a sequence that comes with others is.
     let j = tables::clash(t, x);
     if j == 1 {
         return no_pairs(t, q, s.largest_peer_retire_prior_to, ACCEPTED);

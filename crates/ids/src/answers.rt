@@ -8,6 +8,7 @@ use values::ConnectionId;
 use values::Counted;
 use values::Done;
 use values::Numbered;
+use values::ResetToken;
 
 // An item, or none: then it is zero.
 #[repr(C)]
@@ -34,7 +35,7 @@ pub struct FrameAnswer {
     pub seq: u64,
     pub retire_prior_to: u64,
     pub cid: ConnectionId,
-    pub token: [u8; 16],
+    pub token: ResetToken,
 }
 
 // The sequences that left the table while a path used them.
@@ -70,23 +71,23 @@ pub struct RetiredOut {
 }
 
 // What the forms of acts.rt give, and the steps of add_dcid: the fields that the call may change, and its answer.
-pub struct TableOut {
+pub struct TableParts {
     pub table: Table,
     pub answer: Done,
 }
 
-pub struct QueueOut {
+pub struct QueueParts {
     pub queue: Queue,
     pub answer: Done,
 }
 
-pub struct InitialOut {
+pub struct InitialParts {
     pub dcids: Table,
     pub zero_length_dcid: bool,
     pub answer: Done,
 }
 
-pub struct LimitOut {
+pub struct LimitParts {
     pub scid_limit: u64,
     pub scid_capacity: usize,
     pub answer: Done,

@@ -55,6 +55,7 @@ fn issue_step(s: Ids, retire_prior_to: u64, x: Item, advertise: bool) -> IssuedP
     ensures { λ r. ⌜ issuedIn s r ≡ issuedOf (S.issue (x .cid) (tokenView (x .token)) advertise (given (x .«has_path») (x .path)) (view s) (withRetirePriorTo «retire_prior_to» (view s))) ⌝ }
 {
     let k = x.token;
+    // 10.3: an ID is given with its reset token.
     if !k.present {
         return none_issued(s, retire_prior_to, INTERNAL_ERROR);
     }
@@ -95,9 +96,11 @@ pub fn add_scid_step(
     requires { ⌜ (wellFormed s ≡ true) × (tokenFormed token ≡ true) × (pathFormed «has_path» path ≡ true) ⌝ }
     ensures { λ r. ⌜ issuedIn s r ≡ issuedOf (S.addScid cid (tokenView token) advertise (given «has_path» path) «retire_if_needed» (view s)) ⌝ }
 {
+    // 5.1.1, 19.15: an endpoint with a zero-length source ID issues none.
     if s.zero_length_scid {
         return none_issued(s, s.retire_prior_to, INTERNAL_ERROR);
     }
+    // 16: a larger sequence can't be sent.
     if MAX_SEQUENCE <= s.next_scid_seq {
         return none_issued(s, s.retire_prior_to, SPENT);
     }
@@ -110,6 +113,7 @@ pub fn add_scid_step(
     };
     let t = s.scids;
     let n = t.count as u64;
+    // 5.1.1: no more than the peer allows, unless Retire Prior To asks for the excess.
     if n < s.scid_limit {
         return issue_step(s, s.retire_prior_to, x, advertise);
     }
@@ -145,6 +149,7 @@ fn take_step(s: Ids, seq: u64, x: Item, i: usize, packet: ConnectionId) -> Freed
     let t = s.scids;
     let rest = tables::remove_at(t, i);
     let id = x.cid;
+    // 19.16: a frame doesn't retire the ID of its own packet.
     if values::cid_eq(id, packet) {
         return none_freed(rest, s.retire_prior_to, PROTOCOL_VIOLATION);
     }
@@ -168,6 +173,7 @@ pub fn retire_scid_step(s: Ids, seq: u64, packet: ConnectionId) -> FreedParts
     ensures { λ r. ⌜ freedIn s r ≡ freedOf (S.retireScid seq packet (view s)) ⌝ }
 {
     let t = s.scids;
+    // 19.16: a sequence that was never issued is an error.
     if s.next_scid_seq <= seq {
         return none_freed(t, s.retire_prior_to, PROTOCOL_VIOLATION);
     }

@@ -9,8 +9,8 @@ ghost use Rattle.ids_rules.specs.Steps as S;
 ghost use Rattle.ids.specs.Reading.{doneAt};
 ghost use Rattle.ids.specs.Acts.{markedAt, queueAt, tableAt, usedAt};
 use crate::answers::DoneOut;
-use crate::answers::QueueOut;
-use crate::answers::TableOut;
+use crate::answers::QueueParts;
+use crate::answers::TableParts;
 use ids_state::Ids;
 use tables::Queue;
 use tables::Table;
@@ -41,26 +41,26 @@ pub fn marked(q: Queue, seq: u64, on: bool) -> Queue
     }
 }
 
-pub fn table_done(t: Table, n: u8) -> TableOut
+pub fn table_done(t: Table, n: u8) -> TableParts
     ensures { λ r. ⌜ r ≡ tableAt n t ⌝ }
 {
-    TableOut {
+    TableParts {
         table: t,
         answer: Done { refusal: n },
     }
 }
 
-pub fn queue_done(q: Queue, n: u8) -> QueueOut
+pub fn queue_done(q: Queue, n: u8) -> QueueParts
     ensures { λ r. ⌜ r ≡ queueAt n q ⌝ }
 {
-    QueueOut {
+    QueueParts {
         queue: q,
         answer: Done { refusal: n },
     }
 }
 
 // The queue with the sequence marked; full, it stays.
-pub fn queue_step(q: Queue, seq: u64, on: bool) -> QueueOut
+pub fn queue_step(q: Queue, seq: u64, on: bool) -> QueueParts
     requires { ⌜ QueueWell q ⌝ }
     ensures { λ r. ⌜ r ≡ markedAt seq on q (on && leb queueSlots (q .count)) ⌝ }
 {
@@ -73,7 +73,7 @@ pub fn queue_step(q: Queue, seq: u64, on: bool) -> QueueOut
 }
 
 // The table with the item put on the path.
-pub fn used_step(t: Table, seq: u64, path: u64) -> TableOut
+pub fn used_step(t: Table, seq: u64, path: u64) -> TableParts
     requires { ⌜ TableWell t ⌝ }
     ensures { λ r. ⌜ r ≡ usedAt path t (firstWith (hasSeq seq) (live t)) ⌝ }
 {

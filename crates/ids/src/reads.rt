@@ -22,6 +22,7 @@ use values::ConnectionId;
 use values::Counted;
 use values::Flagged;
 use values::Numbered;
+use values::ResetToken;
 use values::refusals::ACCEPTED;
 use values::refusals::INTERNAL_ERROR;
 
@@ -157,7 +158,7 @@ pub fn no_frame(n: u8) -> FrameAnswer
             bytes: [0; 20],
             len: 0,
         },
-        token: [0; 16],
+        token: ResetToken { bytes: [0; 16] },
     }
 }
 
@@ -180,7 +181,7 @@ pub fn frame(t: Table, retire_prior_to: u64, seq: u64) -> FrameAnswer
             seq: seq,
             retire_prior_to: retire_prior_to,
             cid: cid,
-            token: bytes,
+            token: ResetToken { bytes: bytes },
         };
     }
     no_frame(INTERNAL_ERROR)

@@ -1,4 +1,4 @@
-// The calls on one path, as what each leaves: a path and its place (`Placed`), and the answer. A host that lends its state has that path stored in place and
+// The calls on one path, as what each leaves: a path and its place (`PathParts`), and the answer. A host that lends its state has that path stored in place and
 // nothing else copied. `look` tests the state; a call that is refused leaves the path that it finds.
 ghost use mathlib.Core.Path.{_≡_};
 ghost use mathlib.Core.Bool.{cond, true};
@@ -9,10 +9,10 @@ ghost use Rattle.paths_state.specs.Formed.{seqFormed};
 ghost use Rattle.paths_rules.specs.Calls as C;
 ghost use Rattle.paths.specs.Reading.{doneCall, poppedCall, respondedCall};
 ghost use Rattle.paths.specs.Acts.{Puts, PutsPopped, PutsResponded};
-use crate::answers::Placed;
-use crate::answers::PlacedNumber;
-use crate::answers::PlacedResponse;
+use crate::answers::PathParts;
+use crate::answers::PoppedParts;
 use crate::answers::RespondedAnswer;
+use crate::answers::RespondedParts;
 use crate::steps;
 use paths_state::Paths;
 use values::Done;
@@ -36,7 +36,7 @@ pub fn refusal(formed: bool, id: u64, count: u64) -> u8
 }
 
 // A challenge is asked for.
-pub fn initiate_path_chal_at(t: Paths, id: u64) -> Placed
+pub fn initiate_path_chal_at(t: Paths, id: u64) -> PathParts
     ensures { λ r. ⌜ Puts t (r .path) (r .place) (r .answer) (doneCall t true (C.On id C.Initiate)) ⌝ }
 {
     let k = paths_state::look(t, id);
@@ -44,7 +44,7 @@ pub fn initiate_path_chal_at(t: Paths, id: u64) -> Placed
     let x = k.path;
     let ok = n == ACCEPTED;
     let y = path::initiated(x, ok);
-    Placed {
+    PathParts {
         path: y,
         place: k.place,
         answer: Done { refusal: n },
@@ -52,7 +52,7 @@ pub fn initiate_path_chal_at(t: Paths, id: u64) -> Placed
 }
 
 // A PATH_CHALLENGE frame came.
-pub fn on_path_chal_received_at(t: Paths, id: u64, data: u64) -> Placed
+pub fn on_path_chal_received_at(t: Paths, id: u64, data: u64) -> PathParts
     ensures { λ r. ⌜ Puts t (r .path) (r .place) (r .answer) (doneCall t true (C.On id (C.Receive «data»))) ⌝ }
 {
     let k = paths_state::look(t, id);
@@ -61,7 +61,7 @@ pub fn on_path_chal_received_at(t: Paths, id: u64, data: u64) -> Placed
     let ok = n == ACCEPTED;
     let y = path::received(x, ok, data);
     let m = steps::excused(n);
-    Placed {
+    PathParts {
         path: y,
         place: k.place,
         answer: Done { refusal: m },
@@ -69,7 +69,7 @@ pub fn on_path_chal_received_at(t: Paths, id: u64, data: u64) -> Placed
 }
 
 // Bytes came: a server's credit on a path that is not verified rises by factor x length.
-pub fn inc_anti_ampl_limit_at(t: Paths, id: u64, length: u64) -> Placed
+pub fn inc_anti_ampl_limit_at(t: Paths, id: u64, length: u64) -> PathParts
     ensures { λ r. ⌜ Puts t (r .path) (r .place) (r .answer) (doneCall t true (C.On id (C.Credit length))) ⌝ }
 {
     let k = paths_state::look(t, id);
@@ -78,7 +78,7 @@ pub fn inc_anti_ampl_limit_at(t: Paths, id: u64, length: u64) -> Placed
     let ok = (n == ACCEPTED) & k.is_server;
     let y = path::gained(x, ok, k.anti_ampl_factor, length);
     let m = steps::excused(n);
-    Placed {
+    PathParts {
         path: y,
         place: k.place,
         answer: Done { refusal: m },
@@ -86,7 +86,7 @@ pub fn inc_anti_ampl_limit_at(t: Paths, id: u64, length: u64) -> Placed
 }
 
 // Bytes were sent: the credit falls by the length.
-pub fn dec_anti_ampl_limit_at(t: Paths, id: u64, length: u64) -> Placed
+pub fn dec_anti_ampl_limit_at(t: Paths, id: u64, length: u64) -> PathParts
     ensures { λ r. ⌜ Puts t (r .path) (r .place) (r .answer) (doneCall t true (C.On id (C.Charge length))) ⌝ }
 {
     let k = paths_state::look(t, id);
@@ -95,7 +95,7 @@ pub fn dec_anti_ampl_limit_at(t: Paths, id: u64, length: u64) -> Placed
     let ok = (n == ACCEPTED) & k.is_server;
     let y = path::spent(x, ok, length);
     let m = steps::excused(n);
-    Placed {
+    PathParts {
         path: y,
         place: k.place,
         answer: Done { refusal: m },
@@ -103,7 +103,7 @@ pub fn dec_anti_ampl_limit_at(t: Paths, id: u64, length: u64) -> Placed
 }
 
 // The source sequence that the path uses, or none: then it is 0.
-pub fn set_scid_seq_at(t: Paths, id: u64, has_seq: bool, seq: u64) -> Placed
+pub fn set_scid_seq_at(t: Paths, id: u64, has_seq: bool, seq: u64) -> PathParts
     ensures { λ r. ⌜ Puts t (r .path) (r .place) (r .answer) (doneCall t (seqFormed «has_seq» seq) (C.On id (C.SetScid (given «has_seq» seq)))) ⌝ }
 {
     let k = paths_state::look(t, id);
@@ -112,7 +112,7 @@ pub fn set_scid_seq_at(t: Paths, id: u64, has_seq: bool, seq: u64) -> Placed
     let x = k.path;
     let ok = n == ACCEPTED;
     let y = path::with_scid(x, ok, has_seq, seq);
-    Placed {
+    PathParts {
         path: y,
         place: k.place,
         answer: Done { refusal: n },
@@ -120,7 +120,7 @@ pub fn set_scid_seq_at(t: Paths, id: u64, has_seq: bool, seq: u64) -> Placed
 }
 
 // The destination sequence that the path uses, or none: then it is 0.
-pub fn set_dcid_seq_at(t: Paths, id: u64, has_seq: bool, seq: u64) -> Placed
+pub fn set_dcid_seq_at(t: Paths, id: u64, has_seq: bool, seq: u64) -> PathParts
     ensures { λ r. ⌜ Puts t (r .path) (r .place) (r .answer) (doneCall t (seqFormed «has_seq» seq) (C.On id (C.SetDcid (given «has_seq» seq)))) ⌝ }
 {
     let k = paths_state::look(t, id);
@@ -129,7 +129,7 @@ pub fn set_dcid_seq_at(t: Paths, id: u64, has_seq: bool, seq: u64) -> Placed
     let x = k.path;
     let ok = n == ACCEPTED;
     let y = path::with_dcid(x, ok, has_seq, seq);
-    Placed {
+    PathParts {
         path: y,
         place: k.place,
         answer: Done { refusal: n },
@@ -137,7 +137,7 @@ pub fn set_dcid_seq_at(t: Paths, id: u64, has_seq: bool, seq: u64) -> Placed
 }
 
 // The active flag.
-pub fn set_active_at(t: Paths, id: u64, on: bool) -> Placed
+pub fn set_active_at(t: Paths, id: u64, on: bool) -> PathParts
     ensures { λ r. ⌜ Puts t (r .path) (r .place) (r .answer) (doneCall t true (C.On id (C.SetActive on))) ⌝ }
 {
     let k = paths_state::look(t, id);
@@ -145,7 +145,7 @@ pub fn set_active_at(t: Paths, id: u64, on: bool) -> Placed
     let x = k.path;
     let ok = n == ACCEPTED;
     let y = path::with_active(x, ok, on);
-    Placed {
+    PathParts {
         path: y,
         place: k.place,
         answer: Done { refusal: n },
@@ -153,7 +153,7 @@ pub fn set_active_at(t: Paths, id: u64, on: bool) -> Placed
 }
 
 // The peer's address is verified.
-pub fn mark_verified_at(t: Paths, id: u64) -> Placed
+pub fn mark_verified_at(t: Paths, id: u64) -> PathParts
     ensures { λ r. ⌜ Puts t (r .path) (r .place) (r .answer) (doneCall t true (C.On id C.Verify)) ⌝ }
 {
     let k = paths_state::look(t, id);
@@ -161,7 +161,7 @@ pub fn mark_verified_at(t: Paths, id: u64) -> Placed
     let x = k.path;
     let ok = n == ACCEPTED;
     let y = path::verified(x, ok);
-    Placed {
+    PathParts {
         path: y,
         place: k.place,
         answer: Done { refusal: n },
@@ -169,7 +169,7 @@ pub fn mark_verified_at(t: Paths, id: u64) -> Placed
 }
 
 // The oldest challenge received is taken out: the answer is its data.
-pub fn pop_recv_chal_at(t: Paths, id: u64) -> PlacedNumber
+pub fn pop_recv_chal_at(t: Paths, id: u64) -> PoppedParts
     ensures { λ r. ⌜ PutsPopped t (r .path) (r .place) (r .answer) (poppedCall t true (C.On id C.Pop)) ⌝ }
 {
     let k = paths_state::look(t, id);
@@ -178,7 +178,7 @@ pub fn pop_recv_chal_at(t: Paths, id: u64) -> PlacedNumber
     let ok = n == ACCEPTED;
     let w = path::waiting_front(x, ok);
     let y = path::popped(x, ok);
-    PlacedNumber {
+    PoppedParts {
         path: y,
         place: k.place,
         answer: Numbered {
@@ -190,7 +190,7 @@ pub fn pop_recv_chal_at(t: Paths, id: u64) -> PlacedNumber
 }
 
 // A PATH_CHALLENGE frame was sent in a packet of that size.
-pub fn on_path_chal_sent_at(t: Paths, id: u64, data: u64, size: u64, sent: Moment) -> Placed
+pub fn on_path_chal_sent_at(t: Paths, id: u64, data: u64, size: u64, sent: Moment) -> PathParts
     ensures { λ r. ⌜ Puts t (r .path) (r .place) (r .answer) (doneCall t (momentFormed (sent .us)) (C.On id (C.Send «data» size (sent .us)))) ⌝ }
 {
     let k = paths_state::look(t, id);
@@ -199,7 +199,7 @@ pub fn on_path_chal_sent_at(t: Paths, id: u64, data: u64, size: u64, sent: Momen
     let x = k.path;
     let m = path::send_refusal(x, n, sent);
     let y = path::sent(x, m == ACCEPTED, data, size, sent);
-    Placed {
+    PathParts {
         path: y,
         place: k.place,
         answer: Done { refusal: m },
@@ -207,7 +207,7 @@ pub fn on_path_chal_sent_at(t: Paths, id: u64, data: u64, size: u64, sent: Momen
 }
 
 // A PATH_RESPONSE frame came: the answer is whether the path is now Validated, and a span for each challenge that it matched.
-pub fn on_path_resp_received_at(t: Paths, id: u64, data: u64, now: Moment) -> PlacedResponse
+pub fn on_path_resp_received_at(t: Paths, id: u64, data: u64, now: Moment) -> RespondedParts
     ensures { λ r. ⌜ PutsResponded t (r .path) (r .place) (r .answer) (respondedCall t (momentFormed (now .us)) (C.On id (C.Respond «data» (now .us)))) ⌝ }
 {
     let k = paths_state::look(t, id);
@@ -219,7 +219,7 @@ pub fn on_path_resp_received_at(t: Paths, id: u64, data: u64, now: Moment) -> Pl
     let y = z.path;
     let s = z.spans;
     let m = steps::excused(n);
-    PlacedResponse {
+    RespondedParts {
         path: y,
         place: k.place,
         answer: RespondedAnswer {

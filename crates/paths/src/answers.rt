@@ -65,21 +65,21 @@ pub struct RespondedOut {
 
 // What a call on one path leaves: the path at the place, and all else as it was. Where nothing changes, it is the path that stands there.
 #[repr(C)]
-pub struct Placed {
+pub struct PathParts {
     pub path: Path,
     pub place: usize,
     pub answer: Done,
 }
 
 #[repr(C)]
-pub struct PlacedNumber {
+pub struct PoppedParts {
     pub path: Path,
     pub place: usize,
     pub answer: Numbered,
 }
 
 #[repr(C)]
-pub struct PlacedResponse {
+pub struct RespondedParts {
     pub path: Path,
     pub place: usize,
     pub answer: RespondedAnswer,

@@ -12,7 +12,7 @@ ghost use Rattle.paths.specs.Reading.{foundOf, noPair, optionalPair, pat
 ghost use Rattle.paths.specs.CallLaws.{wishedAt};
 use crate::answers::DoneOut;
 use crate::answers::FoundAnswer;
-use crate::answers::Placed;
+use crate::answers::PathParts;
 use crate::blanks;
 use crate::search;
 use paths_state::Path;
@@ -123,7 +123,7 @@ pub fn stored(t: Paths, i: usize, x: Path) -> Paths
 }
 
 // What a call on one path leaves, as the whole state.
-pub fn put(t: Paths, p: Placed) -> DoneOut
+pub fn put(t: Paths, p: PathParts) -> DoneOut
     requires { ⌜ p .place < maxPaths ⌝ }
     ensures { λ r. ⌜ r ≡ record { paths = putPaths (set (t .items) (p .place) (p .path)) (t .count) t; answer = p .answer } ⌝ }
 {

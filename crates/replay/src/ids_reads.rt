@@ -30,7 +30,7 @@ fn found(a: ids::FoundAnswer, call: u8, out: &mut [u8], at: usize) -> usize {
 
 fn framed(a: ids::FrameAnswer, call: u8, out: &mut [u8], at: usize) -> usize {
     let id = a.cid;
-    let token = a.token;
+    let token = a.token.bytes;
     let p = text::put_head(out, at, call, a.refusal);
     let q = text::put_number(out, p, a.seq);
     let n = text::put_number(out, q, a.retire_prior_to);

@@ -36,7 +36,7 @@ answers! {
         Field::Number(answer.seq),
         Field::Number(answer.retire_prior_to),
         id(&answer.cid),
-        Field::Token(answer.token),
+        Field::Token(answer.token.bytes),
     ];
     RetiredAnswer: |answer| [Field::Number(answer.used.count as u64), Field::Number(digest::of_used(&answer.used))];
     PathAnswer: |answer| [Field::Number(digest::of_path(&answer.path))];

@@ -9,7 +9,7 @@ use Rattle.ids.specs.Puts.{putDestination}
 use Rattle.ids.specs.Acts.{doneIn, done-leaves}
 use Rattle.ids.specs.MarkLaws.{dcid-used-is}
 use Rattle.ids.specs.CallLaws.{chosen, state-test}
-use Rattle.ids.specs.declared.answers.TableOut.{TableOut}
+use Rattle.ids.specs.declared.answers.TableParts.{TableParts}
 use Rattle.ids.proofs.acts.mark_dcid_used_at.Statement.{statement}
 use Rattle.ids.proofs.acts.mark_dcid_used_at.Tie as tie
 
@@ -31,7 +31,7 @@ returns c =
 returns-2 : tie.Need-returns-2
 returns-2 c =
     let a = c .before .before .before .before .args in
-    done-leaves _ _ _ (ap (λ (r : TableOut). doneIn (putDestination (r .table) (a .s)) (r .answer)) (c .table-done .ensures) ∙ chosen (a .s) true (doneOf (step (view (a .s)) (MarkDcidUsed (a .seq) (a .path)))) (doneAt 1 (a .s)) false (state-test (a .s) _ (c .before .before .formed .ensures) false (c .before .if1 .left)))
+    done-leaves _ _ _ (ap (λ (r : TableParts). doneIn (putDestination (r .table) (a .s)) (r .answer)) (c .table-done .ensures) ∙ chosen (a .s) true (doneOf (step (view (a .s)) (MarkDcidUsed (a .seq) (a .path)))) (doneAt 1 (a .s)) false (state-test (a .s) _ (c .before .before .formed .ensures) false (c .before .if1 .left)))
 
 pub mark-dcid-used-at-spec : {M : Type 1} → statement M
 mark-dcid-used-at-spec = tie.close (tie.spec formed-requires used-step-requires table-done-requires returns returns-2)

@@ -9,7 +9,7 @@ use Rattle.ids.specs.Puts.{putAdvertise}
 use Rattle.ids.specs.Acts.{doneIn, done-leaves}
 use Rattle.ids.specs.MarkLaws.{advertise-is}
 use Rattle.ids.specs.CallLaws.{chosen, state-test}
-use Rattle.ids.specs.declared.answers.QueueOut.{QueueOut}
+use Rattle.ids.specs.declared.answers.QueueParts.{QueueParts}
 use Rattle.ids.proofs.acts.mark_scid_to_advertise_at.Statement.{statement}
 use Rattle.ids.proofs.acts.mark_scid_to_advertise_at.Tie as tie
 
@@ -31,7 +31,7 @@ returns c =
 returns-2 : tie.Need-returns-2
 returns-2 c =
     let a = c .before .before .before .before .args in
-    done-leaves _ _ _ (ap (λ (r : QueueOut). doneIn (putAdvertise (r .queue) (a .s)) (r .answer)) (c .queue-done .ensures) ∙ chosen (a .s) true (doneOf (step (view (a .s)) (MarkScidToAdvertise (a .seq) (a .on)))) (doneAt 1 (a .s)) false (state-test (a .s) _ (c .before .before .formed .ensures) false (c .before .if1 .left)))
+    done-leaves _ _ _ (ap (λ (r : QueueParts). doneIn (putAdvertise (r .queue) (a .s)) (r .answer)) (c .queue-done .ensures) ∙ chosen (a .s) true (doneOf (step (view (a .s)) (MarkScidToAdvertise (a .seq) (a .on)))) (doneAt 1 (a .s)) false (state-test (a .s) _ (c .before .before .formed .ensures) false (c .before .if1 .left)))
 
 pub mark-scid-to-advertise-at-spec : {M : Type 1} → statement M
 mark-scid-to-advertise-at-spec = tie.close (tie.spec formed-requires queue-step-requires queue-done-requires returns returns-2)

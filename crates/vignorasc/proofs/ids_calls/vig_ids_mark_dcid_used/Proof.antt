@@ -7,7 +7,7 @@ use Rattle.ids.specs.Reading.{doneCall}
 use Rattle.ids.specs.Runs as R
 use Rattle.ids_rules.specs.Calls as C
 use Rattle.lent.specs.Kind.{kind}
-use Rattle.vignorasc.proofs.Sorts.{done, table-out, table-out-answer, table-out-table, u64}
+use Rattle.vignorasc.proofs.Sorts.{done, table-parts, table-parts-answer, table-parts-table, u64}
 use Rattle.lent.specs.Store.{sets}
 use Rattle.vignorasc.proofs.IdsFields.{stores-fields}
 use Rattle.ids.proofs.mark_dcid_used_at.Symbol as g
@@ -19,7 +19,7 @@ use Rattle.vignorasc.proofs.ids_calls.vig_ids_mark_dcid_used.Code as co
 pub vig-ids-mark-dcid-used-spec : {M : Type 1} → stated.statement M
 unfolding code.routine
 vig-ids-mark-dcid-used-spec {M} =
-    stores-fields (u64 ∷ u64 ∷ []) table-out (kind done) table-out-answer (sets 1 table-out-table refl ∷ [])
+    stores-fields (u64 ∷ u64 ∷ []) table-parts (kind done) table-parts-answer (sets 1 table-parts-table refl ∷ [])
     (λ t r. putDestination (r .table) t) (λ t (seq, (path, _)). doneCall t true (C.MarkDcidUsed seq path)) (λ r. r .answer) (λ r. r .ids)
     (λ t (seq, (path, _)) r u. R.Done (record { ids = u; answer = r }) ≡ R.result t (R.MarkDcidUsed seq path)) (λ t x r u p q i. R.Done (record { ids = q i; answer = p i }))
     (λ t r. refl) (λ t r w o. (w .0, (o .0, w .1 .1)))
