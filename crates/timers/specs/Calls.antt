@@ -2,7 +2,7 @@
 use Prim.Native.Nat.{ℕ}
 use mathlib.Core.Bool.{Bool, false, cond, _&&_}
 use mathlib.Core.Option.{none}
-use lib.Dec.{ltb}
+use lib.Dec.{leb, ltb}
 use Rattle.values.specs.Limits.{timerCount}
 use Rattle.values.specs.declared.time.Moment.{Moment}
 use Rattle.values.specs.declared.answers.Flagged.{Flagged}

@@ -1,6 +1,7 @@
 // The timer table, lent in place: set, stop and clear take the value out, make the published call by value, and put the table that it answers back. On a
 // refusal that is the table as it was. For hosts: a caller in Rattle uses the calls by value, since a caller of these is a proof by hand; `timers_by_lending`
 // has three, for the comparison of the two forms.
+ghost use mathlib.Core.List.{[]};
 ghost use mathlib.Core.Path.{_≡_};
 ghost use Rattle.timers.specs.Calls.{clearCall, nextTimeoutCall, setCall, stopCall};
 use timers::TimerTable;
