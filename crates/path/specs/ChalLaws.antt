@@ -21,7 +21,7 @@ use Rattle.paths_state.specs.Laws.{path-facts}
 use Rattle.paths_state.specs.declared.state.Path as S
 use Rattle.paths_rules.specs.State.{Path, Challenge}
 use Rattle.paths_rules.specs.With.{withAsk, withSent, withActive}
-use Rattle.paths_rules.specs.Path.{pop, receive, roomed, due, lastSize, matching, unmatched, carries, spans, largestAfter, validates, matched, respond, reached, promote, rankValidated}
+use Rattle.paths_rules.specs.Path.{pop, receive, roomed, due, lastSize, matching, unmatched, carries, spans, largestAfter, validates, matched, respond, reached, promote, rankValidated, rankValidatingMTU}
 use Rattle.path.specs.Reading.{chalView, chalOf, pathView, pathOf}
 use Rattle.path.specs.ReadingLaws.{chals-is}
 use Rattle.path.specs.FieldLaws.{back}
@@ -70,10 +70,10 @@ module _ (x : S.Path) (w : pathFormed x ≡ true) where
         (cond a (pathView x)
         (cond b (withSent [] (withActive multi (promote rankValidated (reached d (pathView x))))) (withAsk true (reached d (pathView x)))))
 
-    respond-none : eqb (x .state) 4 ≡ true → x ≡ pathOf (respond d multi (pathView x))
+    respond-none : eqb (x .state) rankValidated ≡ true → x ≡ pathOf (respond d multi (pathView x))
     respond-none t = back x w ∙ sym (ap (λ (a : Bool). respondAt a (leb minClientInitialLen (largestAfter d (pathView x)))) t)
 
-    module _ (t : eqb (x .state) 4 ≡ false) (n r : ℕ) (e : n ≡ largestAfter d (pathView x)) (f : r ≡ max (x .state) 3) where
+    module _ (t : eqb (x .state) rankValidated ≡ false) (n r : ℕ) (e : n ≡ largestAfter d (pathView x)) (f : r ≡ max (x .state) rankValidatingMTU) where
       pub respond-big : (s : Sent) (k : ℕ) → s ≡ sentOf [] → k ≡ max r 4 → leb minClientInitialLen n ≡ true → putReached s n multi k x ≡ pathOf (respond d multi (pathView x))
       respond-big s k g h b =
           (λ i. putReached (g i) (e i) multi ((h ∙ ap (λ (m : ℕ). max m 4) f) i) (back x w i))
@@ -90,25 +90,25 @@ busy true b e = (refl, e)
 busy false b e = let z : _≡_ {A = ℕ} 0 1 = cc in absurd (omega arith)
 
 module _ (x : S.Path) (d : ℕ) where
-  pub respond-idle : (multi ok : Bool) → (ok ≡ true → pathFormed x ≡ true) → (not ok || eqb (x .state) 4) ≡ true → x ≡ cond ok (pathOf (respond d multi (pathView x))) x
+  pub respond-idle : (multi ok : Bool) → (ok ≡ true → pathFormed x ≡ true) → (not ok || eqb (x .state) rankValidated) ≡ true → x ≡ cond ok (pathOf (respond d multi (pathView x))) x
   respond-idle multi true w t = respond-none x (w refl) d multi t
   respond-idle multi false w t = refl
 
   abbrev validatesAt : Bool → Bool → Bool
   validatesAt a b = a && (not b && leb minClientInitialLen (largestAfter d (pathView x)))
 
-  pub validates-idle : (ok : Bool) → (not ok || eqb (x .state) 4) ≡ true → false ≡ (ok && validates d (pathView x))
+  pub validates-idle : (ok : Bool) → (not ok || eqb (x .state) rankValidated) ≡ true → false ≡ (ok && validates d (pathView x))
   validates-idle true t = sym (ap (validatesAt true) t)
   validates-idle false t = refl
 
-  pub validates-is : (ok : Bool) → (not ok || eqb (x .state) 4) ≡ false → (n : ℕ) → n ≡ largestAfter d (pathView x) → leb minClientInitialLen n ≡ (ok && validates d (pathView x))
-  validates-is ok t n e = ap (leb minClientInitialLen) e ∙ sym (ap₂ validatesAt (busy ok (eqb (x .state) 4) t .0) (busy ok (eqb (x .state) 4) t .1))
+  pub validates-is : (ok : Bool) → (not ok || eqb (x .state) rankValidated) ≡ false → (n : ℕ) → n ≡ largestAfter d (pathView x) → leb minClientInitialLen n ≡ (ok && validates d (pathView x))
+  validates-is ok t n e = ap (leb minClientInitialLen) e ∙ sym (ap₂ validatesAt (busy ok (eqb (x .state) rankValidated) t .0) (busy ok (eqb (x .state) rankValidated) t .1))
 
   module _ (now : ℕ) where
     abbrev matchedAt : Bool → Bool → Spans
     matchedAt a b = spansOf (cond a (cond b [] (spans d now (pathView x))) [])
 
-    pub matched-idle : (ok : Bool) → (not ok || eqb (x .state) 4) ≡ true → spansOf [] ≡ spansOf (cond ok (matched d now (pathView x)) [])
+    pub matched-idle : (ok : Bool) → (not ok || eqb (x .state) rankValidated) ≡ true → spansOf [] ≡ spansOf (cond ok (matched d now (pathView x)) [])
     matched-idle true t = sym (ap (matchedAt true) t)
     matched-idle false t = refl
 
@@ -119,8 +119,8 @@ module _ (x : S.Path) (d : ℕ) where
           ap (λ (m : Matches). max (x .«max_challenge_size») (m .size)) e
           ∙ ap (max (x .«max_challenge_size»)) (sym (last-view 0 (C.matching d (standing (x .«sent_chals»)))) ∙ sym (ap (lastSize 0) (match-view d (standing (x .«sent_chals»)))))
 
-      pub matched-is : (ok : Bool) → (not ok || eqb (x .state) 4) ≡ false → r .spans ≡ spansOf (cond ok (matched d now (pathView x)) [])
+      pub matched-is : (ok : Bool) → (not ok || eqb (x .state) rankValidated) ≡ false → r .spans ≡ spansOf (cond ok (matched d now (pathView x)) [])
       matched-is ok t =
           ap (λ (m : Matches). m .spans) e
           ∙ ap spansOf (sym (picked-view chalView (carries d) (C.carries d) (λ c. refl) (λ (c : Challenge). now - c .sent) (C.spanTo now) (λ c. refl) (standing (x .«sent_chals»))))
-          ∙ sym (ap₂ matchedAt (busy ok (eqb (x .state) 4) t .0) (busy ok (eqb (x .state) 4) t .1))
+          ∙ sym (ap₂ matchedAt (busy ok (eqb (x .state) rankValidated) t .0) (busy ok (eqb (x .state) rankValidated) t .1))

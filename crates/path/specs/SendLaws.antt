@@ -19,7 +19,7 @@ use Rattle.paths_state.specs.Formed.{pathFormed}
 use Rattle.paths_state.specs.Laws.{path-facts}
 use Rattle.paths_state.specs.declared.state.Path as S
 use Rattle.paths_rules.specs.State.{Path, Challenge}
-use Rattle.paths_rules.specs.Path.{lossTime, challenge, send}
+use Rattle.paths_rules.specs.Path.{rankValidating, lossTime, challenge, send}
 use Rattle.path.specs.Reading.{chalView, chalOf, pathView, pathOf}
 use Rattle.path.specs.FieldLaws.{back}
 use Rattle.path.specs.Puts.{putSent}
@@ -91,7 +91,7 @@ module _ (x : S.Path) (w : pathFormed x ≡ true) where
       send-room = omega (arith, sent-count, leb-false maxPathChalsSent (length (pathView x .sent)) (none-at lostTest timeTest fullTest e .2))
 
     -- it goes to the end; `due` is its deadline
-    pub send-is : (d size r : ℕ) (due : Moment) (s : Sent) → due ≡ record { us = lossTime now (x .«lost_chal») } → s ≡ sentOf (standing (x .«sent_chals») ++ (stamped d size now due ∷ [])) → r ≡ max (x .state) 2
+    pub send-is : (d size r : ℕ) (due : Moment) (s : Sent) → due ≡ record { us = lossTime now (x .«lost_chal») } → s ≡ sentOf (standing (x .«sent_chals») ++ (stamped d size now due ∷ [])) → r ≡ max (x .state) rankValidating
         → putSent s r x ≡ pathOf (send d size now (pathView x))
     send-is d size r due s g e f =
         let y = challenge d size now (x .«lost_chal») in
