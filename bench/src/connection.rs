@@ -50,7 +50,7 @@ pub mod cid {
             Ids {
                 scids: table(&self.scids),
                 dcids: table(&self.dcids),
-                scid_capacity: self.scids.scid_capacity,
+                scid_capacity: self.scids.capacity,
                 dcid_limit: self.dcid_limit as u64,
                 scid_limit: self.scid_limit as u64,
                 zero_length_scid: self.zero_length_scid,

@@ -279,14 +279,14 @@ fn filled<M: Made>(full: bool, room: bool) -> M {
     let last = last(full, room);
     let mut ids = M::fresh(limit, Cid::of(SOURCE, 0), Token::of(SOURCE, 0));
     ids.set_scid_limit(limit);
-    for seq in 1..=last.scids {
+    for seq in 1..=last.source {
         ids.add_scid(Cid::of(SOURCE, seq), Token::of(SOURCE, seq));
     }
-    for seq in 1..=last.scids.min(15) {
+    for seq in 1..=last.source.min(15) {
         ids.announced(seq);
     }
     ids.set_initial_dcid(Cid::of(DESTINATION, 0), Token::of(DESTINATION, 0));
-    for seq in 1..=last.dcids {
+    for seq in 1..=last.destination {
         let rpt = if seq > RETIRED { RETIRED } else { 0 };
         ids.add_dcid(Cid::of(DESTINATION, seq), seq, Token::of(DESTINATION, seq), rpt);
     }
@@ -470,7 +470,7 @@ fn rows(full: bool) -> Vec<Row> {
         |s, (cid, token)| val_ids_add_scid(*s, cid, token, true, false, 0, true),
         |m, (cid, token)| m.add_scid(cid, Some(token), true, None, true),
     );
-    let seq = room.dcids + 1;
+    let seq = room.destination + 1;
     // No higher Retire Prior To than before; and one that moves the first item, of full tables sixteen.
     let rpt = if full { [RETIRED, RETIRED + 16] } else { [0, 1] };
     for (name, rpt) in ["add_dcid", "add_dcid, retiring"].into_iter().zip(rpt) {
