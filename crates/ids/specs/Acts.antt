@@ -24,6 +24,7 @@ use Rattle.ids.specs.declared.answers.FreedOut.{FreedOut}
 use Rattle.ids.specs.declared.answers.RetiredOut.{RetiredOut}
 use Rattle.ids.specs.declared.answers.IssuedParts.{IssuedParts}
 use Rattle.ids.specs.declared.answers.FreedParts.{FreedParts}
+use Rattle.ids.specs.declared.answers.RetiredAnswer.{RetiredAnswer}
 use Rattle.ids.specs.declared.answers.RetiredParts.{RetiredParts}
 use Rattle.ids.specs.declared.answers.TableParts.{TableParts}
 use Rattle.ids.specs.declared.answers.QueueParts.{QueueParts}
@@ -42,6 +43,9 @@ IssuedLeaves u a r = Left u (r .ids) a (r .answer)
 
 abbrev pub FreedLeaves : Ids → Numbered → FreedOut → Type 0
 FreedLeaves u a r = Left u (r .ids) a (r .answer)
+
+abbrev pub RetiredLeaves : Ids → RetiredAnswer → RetiredOut → Type 0
+RetiredLeaves u a r = Left u (r .ids) a (r .answer)
 
 -- both at once
 abbrev pub doneIn : Ids → Done → DoneOut
@@ -66,6 +70,9 @@ issued-leaves s p r e = record { state = ap (λ (x : IssuedOut). x .ids) e; answ
 
 pub freed-leaves : (s : Ids) (p : FreedParts) (r : FreedOut) → freedIn s p ≡ r → FreedLeaves (putSourceRpt (p .scids) (p .«retire_prior_to») s) (p .answer) r
 freed-leaves s p r e = record { state = ap (λ (x : FreedOut). x .ids) e; answer = ap (λ (x : FreedOut). x .answer) e }
+
+pub retired-leaves : (s : Ids) (p : RetiredParts) (r : RetiredOut) → retiredIn s p ≡ r → RetiredLeaves (putLowered (p .dcids) (p .«dcids_to_retire») (p .«largest_peer_retire_prior_to») s) (p .answer) r
+retired-leaves s p r e = record { state = ap (λ (x : RetiredOut). x .ids) e; answer = ap (λ (x : RetiredOut). x .answer) e }
 
 -- no path was freed, no pair retired
 abbrev pub freeNone : ℕ → Table → ℕ → FreedParts

@@ -1,4 +1,4 @@
-// The calls that change the state, but for add_dcid, as what they may change of it and the answer: a lent state is changed in place by that. Each tests
+// The calls that change the state, as what they may change of it and the answer: a lent state is changed in place by that. Each tests
 // the state and its arguments first: what is not of its form is refused with 1, and the fields come back as they were. docs/RULES.md has the steps after
 // that.
 ghost use mathlib.Core.Bool.{true, _&&_};
@@ -6,14 +6,16 @@ ghost use Rattle.lists.specs.Defs.{given};
 ghost use Rattle.values.specs.Cid.{idFormed};
 ghost use Rattle.values.specs.Token.{tokenFormed, tokenView};
 ghost use Rattle.ids_rules.specs.Calls as C;
-ghost use Rattle.ids.specs.Reading.{doneCall, freedCall, issuedCall, pathFormed};
-ghost use Rattle.ids.specs.Puts.{putAdvertise, putDestination, putInitial, putIssued, putLimit, putRetire, putSource, putSourceRpt};
-ghost use Rattle.ids.specs.Acts.{FreedLeaves, IssuedLeaves, Leaves};
+ghost use Rattle.ids.specs.Reading.{doneCall, freedCall, issuedCall, pathFormed, retiredCall};
+ghost use Rattle.ids.specs.Puts.{putAdvertise, putDestination, putInitial, putIssued, putLimit, putLowered, putRetire, putSource, putSourceRpt};
+ghost use Rattle.ids.specs.Acts.{FreedLeaves, IssuedLeaves, Leaves, RetiredLeaves};
+use crate::adds;
 use crate::answers::FreedParts;
 use crate::answers::InitialParts;
 use crate::answers::IssuedParts;
 use crate::answers::LimitParts;
 use crate::answers::QueueParts;
+use crate::answers::RetiredParts;
 use crate::answers::TableParts;
 use crate::issues;
 use crate::marks;
@@ -21,6 +23,7 @@ use crate::starts;
 use ids_state::Ids;
 use values::ConnectionId;
 use values::Done;
+use values::ResetToken;
 use values::Token;
 use values::refusals::ACCEPTED;
 use values::refusals::MALFORMED;
@@ -121,6 +124,27 @@ pub fn add_scid_at(
     } else {
         issues::none_issued(s, s.retire_prior_to, MALFORMED)
     }
+}
+
+// A NEW_CONNECTION_ID frame: the answer is what it retired of the IDs in use.
+pub fn add_dcid_at(
+    s: Ids,
+    cid: ConnectionId,
+    seq: u64,
+    token: ResetToken,
+    retire_prior_to: u64,
+) -> RetiredParts
+    ensures { λ r. ⌜ RetiredLeaves (putLowered (r .dcids) (r .«dcids_to_retire») (r .«largest_peer_retire_prior_to») s) (r .answer) (retiredCall s (idFormed cid) (C.AddDcid cid seq (token .bytes) «retire_prior_to»)) ⌝ }
+{
+    let bytes = token.bytes;
+    let f = ids_state::formed(s);
+    let c = values::cid_formed(cid);
+    if f & c {
+        return adds::add_dcid_step(s, cid, seq, bytes, retire_prior_to);
+    }
+    let t = s.dcids;
+    let q = s.dcids_to_retire;
+    adds::no_pairs(t, q, s.largest_peer_retire_prior_to, MALFORMED)
 }
 
 // A RETIRE_CONNECTION_ID frame: the answer is the path that used the ID.

@@ -24,7 +24,7 @@ use values::refusals::CONNECTION_ID_LIMIT_ERROR;
 use values::refusals::NO_SLOT;
 use values::refusals::PROTOCOL_VIOLATION;
 
-pub fn none_retired(n: u8) -> RetiredAnswer
+fn none_retired(n: u8) -> RetiredAnswer
     ensures { λ r. ⌜ r ≡ record { refusal = n; used = usedOf [] } ⌝ }
 {
     let none = tables::no_pairs();
@@ -34,7 +34,7 @@ pub fn none_retired(n: u8) -> RetiredAnswer
     }
 }
 
-fn no_pairs(d: Table, q: Queue, largest: u64, n: u8) -> RetiredParts
+pub fn no_pairs(d: Table, q: Queue, largest: u64, n: u8) -> RetiredParts
     ensures { λ r. ⌜ r ≡ retireNone n d q largest ⌝ }
 {
     let none = none_retired(n);

@@ -9,7 +9,6 @@ ghost use Rattle.values.specs.Token.{tokenFormed, tokenView};
 ghost use Rattle.ids_rules.specs.Calls as C;
 ghost use Rattle.ids.specs.Reading.{countedCall, doneCall, flaggedCall, foundCall, frameCall, freedCall, freshIds, issuedCall, itemCall, numberedCall, pathFormed, retiredCall};
 use crate::acts;
-use crate::adds;
 use crate::answers::DoneOut;
 use crate::answers::FoundAnswer;
 use crate::answers::FrameAnswer;
@@ -218,22 +217,15 @@ pub fn add_dcid(
 ) -> RetiredOut
     ensures { λ r. ⌜ r ≡ retiredCall s (idFormed cid) (C.AddDcid cid seq (token .bytes) «retire_prior_to») ⌝ }
 {
-    let bytes = token.bytes;
-    let f = ids_state::formed(s);
-    let c = values::cid_formed(cid);
-    if f & c {
-        let p = adds::add_dcid_step(s, cid, seq, bytes, retire_prior_to);
-        let t = p.dcids;
-        let q = p.dcids_to_retire;
-        let mut u = s;
-        u.dcids = t;
-        u.dcids_to_retire = q;
-        u.largest_peer_retire_prior_to = p.largest_peer_retire_prior_to;
-        let d = p.answer;
-        return RetiredOut { ids: u, answer: d };
-    }
-    let d = adds::none_retired(MALFORMED);
-    RetiredOut { ids: s, answer: d }
+    let a = acts::add_dcid_at(s, cid, seq, token, retire_prior_to);
+    let t = a.dcids;
+    let q = a.dcids_to_retire;
+    let mut u = s;
+    u.dcids = t;
+    u.dcids_to_retire = q;
+    u.largest_peer_retire_prior_to = a.largest_peer_retire_prior_to;
+    let d = a.answer;
+    RetiredOut { ids: u, answer: d }
 }
 
 // A RETIRE_CONNECTION_ID frame: the answer is the path that used the ID.

@@ -10,6 +10,7 @@ mod marks;
 mod reads;
 mod starts;
 
+pub use acts::add_dcid_at;
 pub use acts::add_scid_at;
 pub use acts::mark_dcid_to_retire_at;
 pub use acts::mark_dcid_used_at;
@@ -31,6 +32,7 @@ pub use answers::LimitParts;
 pub use answers::QueueParts;
 pub use answers::RetiredAnswer;
 pub use answers::RetiredOut;
+pub use answers::RetiredParts;
 pub use answers::TableParts;
 pub use calls::add_dcid;
 pub use calls::add_scid;

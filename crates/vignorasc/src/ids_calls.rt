@@ -1,5 +1,5 @@
 // The published calls of the ids, over a state that the host lends: the answer is the call's answer, and the state is left as the call leaves it. A call
-// stores the fields that it may change, add_dcid the whole state.
+// stores the fields that it may change.
 ghost use mathlib.Core.Path.{_≡_};
 ghost use Rattle.ids.specs.Runs as R;
 ghost use Rattle.ids.specs.Reading.{freshIds};
@@ -159,8 +159,10 @@ pub extern "C" fn vig_ids_add_dcid(
 ) -> RetiredAnswer
     ensures { λ r. ⌜ R.Retired (record { ids = now (t .exit); answer = r }) ≡ R.result (now (t .entry)) (R.AddDcid cid seq token «retire_prior_to») ⌝ }
 {
-    let a = ids::add_dcid(*t, cid, seq, token, retire_prior_to);
-    *t = a.ids;
+    let a = ids::add_dcid_at(*t, cid, seq, token, retire_prior_to);
+    t.dcids = a.dcids;
+    t.dcids_to_retire = a.dcids_to_retire;
+    t.largest_peer_retire_prior_to = a.largest_peer_retire_prior_to;
     a.answer
 }
 
