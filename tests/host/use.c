@@ -63,7 +63,7 @@ static void ids(void) {
     CHECK(back.item.cid.len == 8 && memcmp(back.item.cid.bytes, "server-1", 8) == 0);
     CHECK(memcmp(back.item.token.bytes, token(16).bytes, 16) == 0);
     vig_frame_answer frame = vig_ids_create_new_connection_id_frame(&t, 1);
-    CHECK(frame.refusal == VIG_ACCEPTED && frame.seq == 1 && frame.retire_prior_to == 0 && frame.token[15] == 31);
+    CHECK(frame.refusal == VIG_ACCEPTED && frame.seq == 1 && frame.retire_prior_to == 0 && frame.token.bytes[15] == 31);
     CHECK(vig_ids_add_scid(&t, id("server-2"), token(32), true, false, 0, false).refusal == VIG_CONNECTION_ID_LIMIT_ERROR);
     /* No path, and yet a number: not of its form. */
     CHECK(vig_ids_add_scid(&t, id("server-2"), token(32), true, false, 9, false).refusal == VIG_MALFORMED);
