@@ -350,7 +350,7 @@ typedef struct vig_address_answer {
     vig_address address;
 } vig_address_answer;
 
-/* Whether the path is now Validated, and a span for each challenge that the response matched. */
+/* Whether the path is now Validated, and a span for each challenge that the response matched. Where it matched none, nothing has changed. */
 typedef struct vig_responded_answer {
     uint8_t refusal;
     bool yes;

@@ -78,6 +78,11 @@ pub mod path {
             self.is_server
         }
 
+        /// What a host of the Rust asks before it reports a response, so that one that nobody asked for changes nothing.
+        pub fn asked(&self, id: usize, data: [u8; 8]) -> bool {
+            self.paths.get(id).is_some_and(|path| path.sent_chals.iter().any(|sent| sent.0 == data))
+        }
+
         /// What ours would be in its place; the clock stands at 0.
         pub fn seen(&self) -> Paths {
             let moment = |at: Instant| Moment { us: at.duration_since(Instant::now()).as_micros() as u64 };

@@ -289,7 +289,8 @@ pub fn area<const FULL: bool>() -> Area {
     let state = format!(
         "{count} paths of kind 4 on a server, limit 8, factor 3; on path 1 credit 3000, a challenge of 1200 bytes sent and \
          one received. Calls on one path are on path 1, the last pair is looked for, insert_path {inserted}, the response \
-         matches and validates, the timeout finds the challenge due. The Rust's fresh and insert_path make the path too; \
+         matches and validates (the unasked one matches nothing, and is looked for before the Rust is called), the timeout \
+         finds the challenge due. The Rust's fresh and insert_path make the path too; \
          what its round-trip time does with a span is left out but for a push to a Vec in on_path_resp_received. {ours} \
          bytes of state, the Rust's own {rust} and what they point to"
     );
@@ -493,6 +494,14 @@ fn rows(count: u64) -> Vec<Row> {
         |s, (id, data, now)| vig_paths_on_path_resp_received(s, id, data, now),
         |s, (id, data, now)| val_paths_on_path_resp_received(*s, id, data, now),
         |m, (id, data)| m.on_path_resp_received(id, data),
+    );
+    r.add(
+        "on_path_resp_received, unasked",
+        ((1, SENT + 1, at(0)), (1, bytes(SENT + 1))),
+        |(.., now)| now.formed(),
+        |s, (id, data, now)| vig_paths_on_path_resp_received(s, id, data, now),
+        |s, (id, data, now)| val_paths_on_path_resp_received(*s, id, data, now),
+        |m, (id, data)| m.asked(id, data) && m.on_path_resp_received(id, data),
     );
     r.add(
         "on_path_chal_timeout",

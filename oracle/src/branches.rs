@@ -102,8 +102,10 @@ fn ways(area: Area, name: &str) -> Vec<&'static str> {
         ],
         (Area::Paths, "on_path_resp_received") => &[
             "moment-too-far", UNKNOWN,
-            "validated no-match-below no-match-single no-match-multipath one-match-below one-match-single one-match-multipath",
-            "several-below several-single several-multipath last-match-smaller now-before-sent size-1199 size-1200 was-failed others-left",
+            "validated unasked-failed unasked-unknown unasked-validating unasked-validating-mtu",
+            "unasked-elsewhere unasked-others-stand unasked-some-were-lost unasked-enough-before",
+            "one-match-below one-match-single one-match-multipath several-below several-single several-multipath",
+            "last-match-smaller now-before-sent size-1199 size-1200 enough-before was-failed others-left",
             "failed-with-challenges unknown-with-challenges some-were-lost sixteen-matches all-128-stand",
         ],
         (Area::Paths, "on_path_chal_timeout") => &[

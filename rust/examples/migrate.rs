@@ -203,11 +203,11 @@ impl Server {
             }
             Frame::Challenge(data) => self.paths.on_path_chal_received(id, data)?,
             Frame::Response(data) => {
-                // The core takes the address for verified by any response (DIFFERENCES.md, D24). This server wants one that only this address can know.
-                if !self.paths.get(id)?.sent_chals.iter().any(|sent| sent.data == data) {
+                let response = self.paths.on_path_resp_received(id, data, self.clock.now())?;
+                // Nobody asked for it, and it changed nothing.
+                if response.spans.is_empty() {
                     return Ok(());
                 }
-                let response = self.paths.on_path_resp_received(id, data, self.clock.now())?;
                 let after: Vec<String> = response.spans.iter().map(|span| format!("{} us", span.as_micros())).collect();
                 let state = self.paths.state(id)?;
                 self.say(format!("path {id}: response after {}, {} bytes sent: {state:?}", after.join(", "), self.sent[id]));

@@ -12,7 +12,7 @@ pub enum PathState {
     Unknown = 1,
     /// A challenge was sent.
     Validating = 2,
-    /// A response came, but none to a challenge in 1200 bytes or more.
+    /// A challenge was answered, but none in 1200 bytes or more.
     ValidatingMtu = 3,
     /// It is the peer's, and carries 1200 bytes.
     Validated = 4,
@@ -51,7 +51,7 @@ pub struct Path {
     pub sent_chals: Vec<SentChallenge>,
     /// A challenge is asked for.
     pub need_send_challenge: bool,
-    /// Challenges lost since the last response.
+    /// Challenges lost since the last response that matched one.
     pub lost_chal: u64,
     /// The largest datagram whose challenge was answered.
     pub max_challenge_size: usize,
@@ -69,7 +69,7 @@ pub struct Path {
     pub listed: bool,
 }
 
-/// What a PATH_RESPONSE did.
+/// What a PATH_RESPONSE did: without a span, nothing.
 #[derive(Clone, Debug, PartialEq, Eq)]
 pub struct Response {
     /// The path is Validated by it.
@@ -211,8 +211,8 @@ impl Paths {
         ffi::vig_paths_on_path_chal_sent(&mut self.0, id as u64, data, size as u64, sent.0).result()
     }
 
-    /// A PATH_RESPONSE frame came. On a path that isn't Validated it verifies the peer's address, as in tquic, even where it matches no challenge
-    /// (DIFFERENCES.md, D24): a server that wants a match looks for the data among [`Path::sent_chals`] first.
+    /// A PATH_RESPONSE frame came. On a path that isn't Validated it verifies the peer's address where it matches a challenge among the path's
+    /// [`Path::sent_chals`]. One that matches none changes nothing, unlike in tquic (DIFFERENCES.md, D24).
     pub fn on_path_resp_received(&mut self, id: usize, data: [u8; 8], now: Moment) -> Result<Response, Refusal> {
         let a = ffi::vig_paths_on_path_resp_received(&mut self.0, id as u64, u64::from_be_bytes(data), now.0);
         let spans = a.spans.items.into_iter().take(a.spans.count);

@@ -9,6 +9,9 @@ use values::Token;
 // The data of the challenge: the 8 bytes of the frame as one number.
 pub const CHALLENGE: u64 = 0x7669676e6f726173;
 
+// Eight bytes that were never sent.
+pub const GUESS: u64 = 0x7669676e6f726172;
+
 fn address(last: u8, port: u16) -> Address {
     Address {
         ip: [192, 0, 2, last, 0, 0, 0, 0, 0, 0, 0, 0, 0, 0, 0, 0],

@@ -25,10 +25,24 @@ fn lifted(t: Paths) -> Paths {
     push::send(t, 1, 5000)
 }
 
+// A response that nobody asked for: somebody who did not hear the challenge guesses at its data.
+fn guessed(t: Paths) -> Paths {
+    tell::say(b"\nSomebody who did not hear the challenge answers it, from the same address.\n\n");
+    let o = paths::on_path_resp_received(t, 1, laptop::GUESS, Moment { us: 40000 });
+    let t = o.paths;
+    let spans = o.answer.spans;
+    tell::number(
+        b"   40.000 ms  the response matches ",
+        spans.count as u64,
+        b" challenges: nothing happens\n",
+    );
+    push::send(t, 1, 5000)
+}
+
 // The challenge is answered, and the whole push may go on.
 fn answered(t: Paths) -> Paths {
     tell::say(
-        b"\nNothing more may go there until the laptop has shown that it can hear. It answers.\n\n",
+        b"\nNothing more may go there until the laptop has shown that it can hear. It answers itself.\n\n",
     );
     let o = paths::on_path_resp_received(t, 1, laptop::CHALLENGE, Moment { us: 48500 });
     let t = o.paths;
@@ -95,6 +109,7 @@ fn main() {
     let s = laptop::ids();
     let t = push::send(v.paths, 0, 9600);
     let t = lifted(t);
+    let t = guessed(t);
     let t = answered(t);
     let t = migrated(t, s);
     let s = retired(s);

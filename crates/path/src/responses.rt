@@ -1,4 +1,4 @@
-// A response to a challenge that was sent. With `ok` false it says nothing, and the path stays as it is.
+// A response to a challenge that was sent. With `ok` false it says nothing, and the path stays as it is. So it does where nobody asked [2].
 ghost use mathlib.Core.Path.{_≡_};
 ghost use mathlib.Core.Bool.{_&&_, cond, true};
 ghost use mathlib.Core.List.{[]};
@@ -45,9 +45,17 @@ pub fn answered(x: Path, ok: bool, data: u64, now: Moment, multi: bool) -> Answe
     let s = x.sent_chals;
     let found = challenges::sent_matches(s, data, now);
     let spans = found.spans;
+    let mut u = x;
+    // Nothing is written before a match is found.
+    if spans.count == 0 {
+        return Answer {
+            path: u,
+            spans: spans,
+            yes: false,
+        };
+    }
     let size = larger(x.max_challenge_size, found.size);
     let rank = sends::raised(x.state, VALIDATING_MTU);
-    let mut u = x;
     u.verified_peer_address = true;
     u.lost_chal = 0;
     u.max_challenge_size = size;

@@ -12,7 +12,7 @@ use mathlib.Core.Bool.{Bool, true, false, cond, not, _&&_}
 use mathlib.Core.Option.{Option, none, some}
 use lib.Dec.{eqb}
 use lib.ListN.{getD}
-use Rattle.lists.specs.Defs.{given, keep}
+use Rattle.lists.specs.Defs.{given, keep, any}
 use Rattle.values.specs.Address.{pairFormed, zeroAddress}
 use Rattle.values.specs.Time.{momentFormed}
 use Rattle.values.specs.declared.address.FourTuple.{FourTuple}
@@ -22,6 +22,7 @@ use Rattle.values.specs.declared.answers.Counted.{Counted}
 use Rattle.values.specs.declared.answers.Numbered.{Numbered}
 use Rattle.values.specs.declared.answers.Timed.{Timed}
 use Rattle.values.specs.Answers.{countedAt, flaggedAt, numberedAt, timedAt}
+use Rattle.challenges.specs.Challenges.{carries, standing}
 use Rattle.paths_rules.specs.Path.{rankValidated}
 use Rattle.paths_rules.specs.Table.{Out, freshFormed, freshCall}
 use Rattle.paths_rules.specs.Calls.{Call, callFormed, apply, run}
@@ -491,11 +492,20 @@ abbrev pub InsertionUnlists : Type 0
 InsertionUnlists = (p : ℕ) (pair : FourTuple) (size : ℕ) (s : Paths) → (insertedIn (result s (InsertPath pair size)) ≡ some p → ⊥)
     → item p (made s (InsertPath pair size)) .listed ≡ true → item p s .listed ≡ true
 
--- p becomes verified only by the mark, or by a response on p that is not yet Validated
+-- a challenge with the data stands in p's own list of those sent
+abbrev pub sentOn : ℕ → ℕ → Paths → Bool
+sentOn p token s = any (carries token) (standing (item p s .«sent_chals»))
+
+-- p becomes verified only by the mark, or by a response on p, not yet Validated, that matches a challenge in p's own sent list [2]
 abbrev pub OnlyVerified : Type 0
 OnlyVerified = (p : ℕ) (s : Paths) (c : CodeCall) → (c ≡ MarkVerified p → ⊥)
-    → ((token : ℕ) (now : Moment) → c ≡ OnPathRespReceived p token now → eqb (item p s .state) rankValidated ≡ false → ⊥)
+    → ((token : ℕ) (now : Moment) → c ≡ OnPathRespReceived p token now → eqb (item p s .state) rankValidated ≡ false → sentOn p token s ≡ true → ⊥)
     → item p s .«verified_peer_address» ≡ false → item p (made s c) .«verified_peer_address» ≡ false
+
+-- a response that matches no challenge in p's sent list answers no, without a span, and leaves the whole state, byte for byte [2]
+abbrev pub Unasked : Type 0
+Unasked = (p token : ℕ) (now : Moment) (s : Paths) → sentOn p token s ≡ false
+    → result s (OnPathRespReceived p token now) ≡ Response (respondedAt (cond (wellFormed s && momentFormed (now .us)) 0 1) false [] s)
 
 -- only a credit to p, a charge to p, and an insertion that answers p change p's allowance
 abbrev pub OnlyCredit : Type 0
@@ -525,4 +535,5 @@ pub record Promises : Type 0 where
   pub insertionFrame : InsertionFrame
   pub insertionUnlists : InsertionUnlists
   pub onlyVerified : OnlyVerified
+  pub unasked : Unasked
   pub onlyCredit : OnlyCredit

@@ -15,7 +15,8 @@ use Rattle.values.specs.Limits.{maxPaths}
 use Rattle.values.specs.Address.{pairFormed, zeroPair}
 use Rattle.values.specs.Time.{momentFormed}
 use Rattle.values.specs.declared.address.FourTuple.{FourTuple}
-use Rattle.paths_rules.specs.Path.{rankValidated, listedAs, flagged, unused}
+use Rattle.challenges.specs.Challenges.{standing}
+use Rattle.paths_rules.specs.Path.{rankValidated, matches, listedAs, flagged, unused}
 use Rattle.paths_rules.specs.Table.{Table, Answer, Out, Nothing, Inserted, Responded, Number, Flag, Maybe, Place, Whole, Found, refused, accepted, pathAt, known, withPaths, fresh, freshFormed, freshCall, zeroTable, evict, pingAt, pingOn}
 use Rattle.paths_rules.specs.Well.{well}
 use Rattle.paths_rules.specs.Calls.{Call, Act, Read, Survey, On, Look, Ask, Insert, callFormed, step, apply, after, run, answer, seen, survey, activeOut}
@@ -24,9 +25,11 @@ use Rattle.paths_rules.specs.Steps.{both, survey-same}
 use Rattle.paths_state.specs.Formed.{wellFormed, zeroPath}
 use Rattle.paths_state.specs.declared.state.Path.{Path}
 use Rattle.paths_state.specs.declared.state.Paths.{Paths}
-use Rattle.path.specs.Reading.{pathOf}
+use Rattle.path.specs.Reading.{pathView, pathOf}
+use Rattle.path.specs.ReadingLaws.{path-of}
+use Rattle.path.specs.ChalLaws.{any-view}
 use Rattle.paths.specs.Reading.{view, pathsOf, doneOf, insertedOf, poppedOf, respondedOf, countedOf, flaggedOf, numberedOf, timedOf, addressOf, pathAnswerOf, foundOf}
-use Rattle.paths.specs.Reading.{doneCall, insertedCall, poppedCall, respondedCall, countedCall, flaggedCall, numberedCall, timedCall, addressCall, pathCall, foundCall}
+use Rattle.paths.specs.Reading.{respondedAt, doneCall, insertedCall, poppedCall, respondedCall, countedCall, flaggedCall, numberedCall, timedCall, addressCall, pathCall, foundCall}
 use Rattle.paths.specs.Lists.{padded-at}
 use Rattle.paths.specs.ReadingLaws.{tidy, view-of, view-is, items-is, paths-long}
 use Rattle.paths.specs.WellLaws.{well-view, well-of-table, applies as step-applies, ping-formed}
@@ -34,8 +37,8 @@ use Rattle.paths.specs.Runs.{CodeCall, InsertPath, Len, Get, GetPathId, 
 use Rattle.paths.specs.Runs.{OnPathChalReceived, OnPathChalSent, OnPathRespReceived, OnPathChalTimeout, MinPathChalTimer, IncAntiAmplLimit, DecAntiAmplLimit, CmpAntiAmplLimit, MarkPing, EnableMultipath, SetScidSeq, SetDcidSeq, SetActive, MarkVerified}
 use Rattle.paths.specs.Runs.{Result, Done, Insertion, Popped, Response, ACount, AFlag, ANumber, ATime, AnAddress, APath, AFound}
 use Rattle.paths.specs.Runs.{Shape, ADone, AnInsertion, APopped, AResponse, Counts, Flags, Numbers, Times, Addresses, Wholes, Finds, shape, shaped, refusedAt}
-use Rattle.paths.specs.Runs.{started, argsFormed, result, stateIn, refusalIn, made, refusal, calls, viewCall, viewCalls, resultAs, Published, amountsTo, totalCredit, totalCharge, item, allowance, insertedIn, Lasts, Within, Begins, first, inserted, withListed}
-use Rattle.paths.specs.Runs.{Applies, Complete, Malformed, OnlyRefuses, LeavesNothing, KeepsWell, FreshOne, FreshWell, RunsWell, NeverOne, IsRun, IsStart, Demand3, StartingAllowance, OneRun, Frame, InsertionFrame, InsertionUnlists, OnlyVerified, OnlyCredit, Promises}
+use Rattle.paths.specs.Runs.{started, argsFormed, result, stateIn, refusalIn, made, refusal, calls, viewCall, viewCalls, resultAs, Published, amountsTo, totalCredit, totalCharge, item, allowance, sentOn, insertedIn, Lasts, Within, Begins, first, inserted, withListed}
+use Rattle.paths.specs.Runs.{Applies, Complete, Malformed, OnlyRefuses, LeavesNothing, KeepsWell, FreshOne, FreshWell, RunsWell, NeverOne, IsRun, IsStart, Demand3, StartingAllowance, OneRun, Frame, InsertionFrame, InsertionUnlists, OnlyVerified, Unasked, OnlyCredit, Promises}
 use Rattle.paths_rules.specs.Calls as C
 use Rattle.paths_rules.specs.Path as R
 use Rattle.paths_rules.specs.State as Rec
@@ -630,6 +633,11 @@ allowance-is p s w = ap (λ (x : Path). x .«anti_ampl_limit») (item-is p s w)
 verified-is : (p : ℕ) (s : Paths) → wellFormed s ≡ true → item p s .«verified_peer_address» ≡ pathAt p (view s) .verified
 verified-is p s w = ap (λ (x : Path). x .«verified_peer_address») (item-is p s w)
 
+sent-is : (p token : ℕ) (s : Paths) → wellFormed s ≡ true → sentOn p token s ≡ matches token (pathAt p (view s))
+sent-is p token s w =
+    sym (any-view token (standing (item p s .«sent_chals»)))
+    ∙ ap (λ (x : Rec.Path). matches token x) (ap pathView (item-is p s w) ∙ path-of (pathAt p (view s)))
+
 -- ---- the period is one of the view
 
 lasts-is : (p : ℕ) (cs : List CodeCall) (s : Paths) → wellFormed s ≡ true → Lasts p s cs → P.Lasts p (view s) (viewCalls cs)
@@ -786,8 +794,21 @@ only-verified p s c mark response h =
     framed p s c (λ (x : Path). x .«verified_peer_address» ≡ false)
     (λ w e. F.only-verified p (view s) (viewCall c)
     (λ q. mark (one-is c p C.Verify e q))
-    (λ d now q v. response d (record { us = now }) (one-is c p (C.Respond d now) e q) (ap (λ (x : Path). eqb (x .state) rankValidated) (item-is p s w) ∙ v))
+    (λ d now q v m. response d (record { us = now }) (one-is c p (C.Respond d now) e q) (ap (λ (x : Path). eqb (x .state) rankValidated) (item-is p s w) ∙ v) (sent-is p d s w ∙ m))
     (sym (verified-is p s w) ∙ h)) h
+
+pub unasked : Unasked
+unasked p token now s e = ap Response (test (wellFormed s && momentFormed (now .us)) refl)
+  where
+    c : Call
+    c = On p (C.Respond token (now .us))
+
+    test : (b : Bool) → (wellFormed s && momentFormed (now .us)) ≡ b
+        → cond b (respondedOf (step (view s) c)) (respondedAt 1 false [] s) ≡ respondedAt (cond b 0 1) false [] s
+    test true h =
+        let w = and-both (wellFormed s) (momentFormed (now .us)) h .0 in
+        ap respondedOf (F.unheeded p token (now .us) (view s) (sym (sent-is p token s w) ∙ e)) ∙ ap (respondedAt 0 false []) (view-is s (tidy s w))
+    test false h = refl
 
 pub only-credit : OnlyCredit
 only-credit p s c credit charge new =
@@ -819,5 +840,6 @@ held = record {
   insertionFrame = insertion-frame;
   insertionUnlists = insertion-unlists;
   onlyVerified = only-verified;
+  unasked = unasked;
   onlyCredit = only-credit;
 }

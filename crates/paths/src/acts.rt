@@ -206,7 +206,8 @@ pub fn on_path_chal_sent_at(t: Paths, id: u64, data: u64, size: u64, sent: Momen
     }
 }
 
-// A PATH_RESPONSE frame came: the answer is whether the path is now Validated, and a span for each challenge that it matched.
+// A PATH_RESPONSE frame came: the answer is whether the path is now Validated, and a span for each challenge that it matched; by one that matches none, nothing
+// changes [2].
 pub fn on_path_resp_received_at(t: Paths, id: u64, data: u64, now: Moment) -> RespondedParts
     ensures { λ r. ⌜ PutsResponded t (r .path) (r .place) (r .answer) (respondedCall t (momentFormed (now .us)) (C.On id (C.Respond «data» (now .us)))) ⌝ }
 {

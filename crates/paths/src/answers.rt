@@ -28,7 +28,7 @@ pub struct AddressAnswer {
     pub address: Address,
 }
 
-// Whether the path is now Validated, and a span for each challenge that the response matched.
+// Whether the path is now Validated, and a span for each challenge that the response matched. Where it matched none, nothing has changed.
 #[repr(C)]
 pub struct RespondedAnswer {
     pub refusal: u8,

@@ -295,7 +295,8 @@ pub fn on_path_chal_received(t: Paths, id: u64, data: u64) -> DoneOut
     steps::put(t, p)
 }
 
-// A PATH_RESPONSE frame came: the answer is whether the path is now Validated, and a span for each challenge that it matched.
+// A PATH_RESPONSE frame came: the answer is whether the path is now Validated, and a span for each challenge that it matched; by one that matches none, nothing
+// changes [2].
 pub fn on_path_resp_received(t: Paths, id: u64, data: u64, now: Moment) -> RespondedOut
     ensures { λ r. ⌜ r ≡ respondedCall t (momentFormed (now .us)) (C.On id (C.Respond «data» (now .us))) ⌝ }
 {

@@ -257,22 +257,14 @@ respondRows =
     ∷ says (probed (mixed 100 1200)) (Respond 1 20) (passed 1200) (Responded true (10 ∷ 0 ∷ []))
     -- the stored size stays if it is larger
     ∷ says (withLargest 800 (probed (mixed 1 700))) (Respond 1 40) (reachedMTU (chal 2 1500 20 110 ∷ []) 800) (Responded false (30 ∷ 10 ∷ []))
-    -- without a match, from Failed and from Unknown too; the lost count is 0
-    ∷ says (withLost 5 (probed (mixed 1300 1300))) (Respond 9 40) (reachedMTU (mixed 1300 1300) 0) (Responded false [])
-    ∷ says (withRank 0 b) (Respond 9 40) (reachedMTU [] 0) (Responded false [])
-    ∷ says b (Respond 9 40) (reachedMTU [] 0) (Responded false [])
-    -- a stored size of 1199, and of 1200, without a match
-    ∷ says (withLargest 1199 b) (Respond 9 40) (reachedMTU [] 1199) (Responded false [])
-    ∷ says (withLargest 1200 b) (Respond 9 40) (passed 1200) (Responded true [])
+    -- a stored size of 1199, and of 1200: Validated by a match of any size
+    ∷ says (withLargest 1199 (probed (mixed 1 2))) (Respond 1 40) (reachedMTU (chal 2 1500 20 110 ∷ []) 1199) (Responded false (30 ∷ 10 ∷ []))
+    ∷ says (withLargest 1200 (probed (mixed 1 2))) (Respond 1 40) (passed 1200) (Responded true (30 ∷ 10 ∷ []))
     -- Validated: the flag is cleared, or set with multipath; a request for a challenge stays
     ∷ says (withActive true (withAsk true (probed (mixed 1 1200)))) (Respond 1 40) (withAsk true (passed 1200)) (Responded true (30 ∷ 10 ∷ []))
     ∷ row (multi (zeroth ∷ probed (mixed 1 1200) ∷ [])) (On 1 (Respond 1 40)) (accepted (Responded true (30 ∷ 10 ∷ [])) (multi (zeroth ∷ withActive true (passed 1200) ∷ [])))
     ∷ row (multi (zeroth ∷ probed (mixed 1 1199) ∷ [])) (On 1 (Respond 1 40))
     (accepted (Responded false (30 ∷ 10 ∷ [])) (multi (zeroth ∷ reachedMTU (chal 2 1500 20 110 ∷ []) 1199 ∷ [])))
-    -- on a Validated path nothing changes; only the path that the call names is looked at
-    ∷ says (withRank 4 (probed (mixed 1 1200))) (Respond 1 40) (withRank 4 (probed (mixed 1 1200))) (Responded false [])
-    ∷ row (serving (zeroth ∷ probed (mixed 1 1200) ∷ c ∷ [])) (On 2 (Respond 1 40))
-    (accepted (Responded false []) (serving (zeroth ∷ probed (mixed 1 1200) ∷ withVerified true (withRank 3 (withAsk true c)) ∷ [])))
     -- 1: the moment
     ∷ says (probed (mixed 1 1200)) (Respond 1 (2 ^ 63 - 1)) (passed 1200) (Responded true ((2 ^ 63 - 11) ∷ (2 ^ 63 - 31) ∷ []))
     ∷ not (probed (mixed 1 1200)) (Respond 1 (2 ^ 63)) 1
@@ -280,6 +272,48 @@ respondRows =
 
 pub responds : Holds respondRows
 responds = refl
+
+-- ---- responses by which nothing changes [2]
+
+-- Failed, Unknown, Validating, ValidatingMTU, Validated, and a rank above them
+abbrev ranks : List ℕ
+ranks = 0 ∷ 1 ∷ 2 ∷ 3 ∷ 4 ∷ 5 ∷ []
+
+-- path 1 with challenges 1, 2, 1 at a lost count of 5, in the state of that rank
+abbrev ranked : ℕ → Path
+ranked r = withLost 5 (withRank r (withSent (mixed 1300 1199) b))
+
+-- heeded: the lost count is 0
+abbrev heeded : ℕ → Path
+heeded r = withRank r (reachedMTU (chal 2 1500 20 110 ∷ []) 1199)
+
+abbrev ignored : Path → ℕ → Row
+ignored x d = says x (Respond d 40) x (Responded false [])
+
+abbrev pub unaskedRows : List Row
+unaskedRows =
+    -- no match, in any state: no challenge stands, or three with other data
+    map (λ (r : ℕ). ignored (withRank r b) 9) ranks
+    ++ map (λ (r : ℕ). ignored (ranked r) 9) ranks
+    -- a match: heeded in any state but Validated
+    ++ map (λ (r : ℕ). says (ranked r) (Respond 1 40) (heeded 3) (Responded false (30 ∷ 10 ∷ []))) (0 ∷ 1 ∷ 2 ∷ 3 ∷ [])
+    ++ (ignored (ranked 4) 1
+    ∷ says (ranked 5) (Respond 1 40) (heeded 5) (Responded false (30 ∷ 10 ∷ []))
+    -- a stored size of 1199, and of 1200, validates nothing
+    ∷ ignored (withLargest 1199 b) 9
+    ∷ ignored (withLargest 1200 b) 9
+    -- data that differ in their last bit, and in their first
+    ∷ ignored (probed (chal 9 1200 10 100 ∷ [])) 8
+    ∷ ignored (probed (chal 9 1200 10 100 ∷ [])) (9 + 2 ^ 63)
+    -- it matches a challenge on path 1, and names path 2, or path 0, which is Validated
+    ∷ reads (serving (zeroth ∷ ranked 2 ∷ c ∷ [])) (On 2 (Respond 1 40)) (Responded false [])
+    ∷ reads (serving (zeroth ∷ ranked 2 ∷ c ∷ [])) (On 0 (Respond 1 40)) (Responded false [])
+    -- 1 all the same
+    ∷ not (ranked 2) (Respond 9 (2 ^ 63)) 1
+    ∷ [])
+
+pub unasked : Holds unaskedRows
+unasked = refl
 
 -- ---- timeouts
 

@@ -1,26 +1,28 @@
 -- The frame: what no other call does to the path p.
 use Prim.Native.Nat.{ℕ, _+_}
-use mathlib.Core.Path.{_≡_, refl}
+use mathlib.Core.Path.{_≡_, refl, ap, ap₂, _∙_}
 use mathlib.Core.List.{List, [], _∷_}
-use mathlib.Core.Bool.{Bool, true, false, cond, _&&_}
+use mathlib.Core.Bool.{Bool, true, false, cond, not, _&&_, and-false}
 use mathlib.Core.Option.{Option, none, some}
 use native.Mathlib.Omega.{arith}
 use lib.Dec.{leb, ltb}
+use lib.Seq.{set-getD}
+use borrow.Author.Tests.{not-true}
 use Rattle.lists.specs.Bools.{and-both}
 use Rattle.lists.specs.Defs.{firstWith}
 use Rattle.values.specs.Limits.{maxProbingTimeouts, minClientInitialLen}
 use Rattle.values.specs.declared.address.FourTuple.{FourTuple}
 use Rattle.paths_rules.specs.State.{Path, Challenge}
 use Rattle.paths_rules.specs.With.{withPing, withAsk, withLost, withSent}
-use Rattle.paths_rules.specs.Path.{expire, probing, timeout, respond, validated, largestAfter}
+use Rattle.paths_rules.specs.Path.{zeroPath, expire, probing, timeout, validated, matches, heeds, respond, reached, settle, spans, largestAfter}
 use Rattle.paths_rules.specs.With.{withListed}
 use Rattle.paths_rules.specs.Path.{failed, listedAs, flagged}
-use Rattle.paths_rules.specs.Table.{Table, Out, Inserted, refused, pathAt, insert, pingAt, pingOn}
+use Rattle.paths_rules.specs.Table.{Table, Out, Inserted, Responded, refused, accepted, pathAt, known, withPaths, onPath, insert, pingAt, pingOn}
 use Rattle.paths_rules.specs.Well.{well}
 use Rattle.paths_rules.specs.Calls.{Act, Initiate, Pop, Receive, Send, Respond, Credit, Charge, SetScid, SetDcid, SetActive, Verify, Look, Call, On, Insert}
-use Rattle.paths_rules.specs.Calls.{Timeout, Ping, Multipath, Ask, callFormed, step, effect, refusal}
+use Rattle.paths_rules.specs.Calls.{Timeout, Ping, Multipath, Ask, isMoment, callFormed, step, effect, refusal}
 use Rattle.paths_rules.specs.Steps.{both, decided, one-holds, act-holds, insert-holds, call-holds}
-use Rattle.paths_rules.specs.Promise.{names, Frame, InsertionFrame, InsertionUnlists, OnlyVerified, OnlyCredit}
+use Rattle.paths_rules.specs.Promise.{names, Frame, InsertionFrame, InsertionUnlists, OnlyVerified, Unasked, OnlyCredit}
 
 -- ---- every field
 
@@ -102,7 +104,9 @@ only-verified p t c mark response h =
     act Pop z e = h
     act (Receive d) z e = h
     act (Send d size now) z e = h
-    act (Respond d now) z e = decided unverified (validated (pathAt p t)) (λ v. h) (λ v. absurd (response d now e v))
+    act (Respond d now) z e =
+        decided unverified (heeds d (pathAt p t))
+        (λ v. let w = and-both (not (validated (pathAt p t))) _ v in absurd (response d now e (not-true (validated (pathAt p t)) (w .0)) (w .1))) (λ v. h)
     act (Credit n) z e = both unverified (t .server) (both unverified (pathAt p t .verified) h h) h
     act (Charge n) z e = both unverified (t .server) (both unverified (pathAt p t .verified) h h) h
     act (SetScid o) z e = h
@@ -111,12 +115,34 @@ only-verified p t c mark response h =
     act Verify z e = absurd (mark e)
     act (Look r) z e = h
 
+-- ---- a response that matches nothing
+
+pub unheeded : (p d now : ℕ) (t : Table) → matches d (pathAt p t) ≡ false → step t (On p (Respond d now)) ≡ accepted (Responded false []) t
+unheeded p d now t e =
+    ap (λ (b : Bool). accepted (cond (known p t) (Responded (b && leb minClientInitialLen (largestAfter d x)) (cond b (spans d now x) [])) (Responded false []))
+    (onPath p (λ (y : Path). cond b (settle (t .multipath) (reached d x)) x) t)) deaf
+    ∙ ap₂ accepted (none-said (known p t)) (ap (λ (l : List Path). withPaths l t) (set-getD (t .paths) p zeroPath))
+  where
+    x : Path
+    x = pathAt p t
+
+    deaf : heeds d x ≡ false
+    deaf = ap (λ (b : Bool). not (validated x) && b) e ∙ and-false (not (validated x))
+
+    -- the same answer of the path that is known, and of none
+    none-said : (k : Bool) → cond k (Responded false []) (Responded false []) ≡ Responded false []
+    none-said true = refl
+    none-said false = refl
+
+pub unasked : Unasked
+unasked p d now t e = ap (λ (o : Out). cond (well t && isMoment now) o (refused 1 t)) (unheeded p d now t e)
+
 -- ---- credit
 
 pub respond-credit : (d : ℕ) (multi : Bool) (x : Path) → respond d multi x .credit ≡ x .credit
 respond-credit d multi x =
-    both (λ (y : Path). y .credit ≡ x .credit) (validated x) refl
-    (both (λ (y : Path). y .credit ≡ x .credit) (leb minClientInitialLen (largestAfter d x)) refl refl)
+    both (λ (y : Path). y .credit ≡ x .credit) (heeds d x)
+    (both (λ (y : Path). y .credit ≡ x .credit) (leb minClientInitialLen (largestAfter d x)) refl refl) refl
 
 pub only-credit : OnlyCredit
 only-credit p t c credit charge new =

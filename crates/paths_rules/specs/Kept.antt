@@ -17,7 +17,7 @@ use Rattle.values.specs.Limits.{maxPaths, maxPathChalsRecv, maxPathChalsSent, m
 use Rattle.paths_rules.specs.State.{Path, Challenge}
 use Rattle.paths_rules.specs.Path.{zeroPath, newPath, roomed, lossTime, challenge, send, receive, pop, expire, probing, timeout, carries}
 use Rattle.paths_rules.specs.With.{withPing, withSent, withAsk}
-use Rattle.paths_rules.specs.Path.{reached, largestAfter, respond, validated, unused, inUse, flagged, listedAs, unlist, failed}
+use Rattle.paths_rules.specs.Path.{reached, largestAfter, respond, heeds, unused, inUse, flagged, listedAs, unlist, failed}
 use Rattle.paths_rules.specs.With.{withLost}
 use Rattle.paths_rules.specs.Table.{Table, Out, Nothing, refused, accepted, pathAt, known, onPath, onAll, fresh, zeroTable, appended, replaced, evict, insert}
 use Rattle.paths_rules.specs.Table.{pingAt, pingInUse, pingOn}
@@ -109,7 +109,7 @@ pop-formed x e =
 -- a response clears the lost count; what stays of the sent challenges stood before
 respond-formed : (d : ℕ) (multi : Bool) (x : Path) → Formed x → Formed (respond d multi x)
 respond-formed d multi x e =
-    both Formed (validated x) e
+    both Formed (heeds d x)
     (both Formed (leb minClientInitialLen (largestAfter d x)) (formed done (record {
       form = p .form;
       received8 = p .received8;
@@ -124,7 +124,7 @@ respond-formed d multi x e =
       lost33 = omega arith;
       spare = λ k. omega arith;
       moments = all-kept inTime (λ (c : Challenge). not (carries d c)) (x .sent) (p .moments);
-    })))
+    }))) e
   where
     p : PartsOf x
     p = facts x e
@@ -184,8 +184,8 @@ module _ (x : Path) where
 
   respond-less : (d : ℕ) (multi : Bool) → L (respond d multi x)
   respond-less d multi =
-      both L (validated x) (less-same x)
-      (both L (leb minClientInitialLen (largestAfter d x)) (still x _ refl refl (less-same x)) (still x _ refl refl (less-same x)))
+      both L (heeds d x)
+      (both L (leb minClientInitialLen (largestAfter d x)) (still x _ refl refl (less-same x)) (still x _ refl refl (less-same x))) (less-same x)
 
   timeout-less : (now : ℕ) → L (timeout now x)
   timeout-less now =

@@ -17,4 +17,5 @@ pub mod Trials
 pub mod Bounds
 pub mod Rows
 pub mod Rfc
+pub mod Previous
 pub mod RfcProof

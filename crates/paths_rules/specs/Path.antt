@@ -5,7 +5,7 @@ use mathlib.Core.Bool.{Bool, true, false, cond, not, _&&_, _||_}
 use mathlib.Core.Option.{Option, none, some}
 use lib.ListN.{length, drop}
 use lib.Dec.{eqb, leb, ltb}
-use Rattle.lists.specs.Defs.{maybe, present, front, empty, keep}
+use Rattle.lists.specs.Defs.{maybe, present, front, empty, keep, any}
 use Rattle.values.specs.declared.address.FourTuple.{FourTuple}
 use Rattle.values.specs.Address.{zeroPair, samePair}
 use Rattle.values.specs.Limits.{maxPathChalsRecv, maxProbingTimeouts, initialChalTimeout, minClientInitialLen, minPathProbeSize}
@@ -93,6 +93,10 @@ timeout now x = cond (probing x) (expire now (x .sent) x) x
 abbrev pub carries : ℕ → Challenge → Bool
 carries d c = eqb (c .«data») d
 
+-- RFC 9000, 8.2.3: the data that was sent in a previous challenge. A response is held against those that stand on the path that it names
+abbrev pub matches : ℕ → Path → Bool
+matches d x = any (carries d) (x .sent)
+
 -- the sent challenges that a response matches, and the others, in order
 abbrev pub matching : ℕ → List Challenge → List Challenge
 matching d l = keep (carries d) l
@@ -124,16 +128,19 @@ settle multi x = cond (leb minClientInitialLen (x .largest)) (withSent [] (withA
 abbrev pub validated : Path → Bool
 validated x = eqb (x .rank) rankValidated
 
--- a response; on a Validated path nothing changes
+-- a path that is not Validated heeds a response that matches; by any other, nothing changes [2]
+abbrev pub heeds : ℕ → Path → Bool
+heeds d x = not (validated x) && matches d x
+
 abbrev pub respond : ℕ → Bool → Path → Path
-respond d multi x = cond (validated x) x (settle multi (reached d x))
+respond d multi x = cond (heeds d x) (settle multi (reached d x)) x
 
 -- whether a response makes the path Validated, and the spans of its matches
 abbrev pub validates : ℕ → Path → Bool
-validates d x = not (validated x) && leb minClientInitialLen (largestAfter d x)
+validates d x = heeds d x && leb minClientInitialLen (largestAfter d x)
 
 abbrev pub matched : ℕ → ℕ → Path → List ℕ
-matched d now x = cond (validated x) [] (spans d now x)
+matched d now x = cond (heeds d x) (spans d now x) []
 
 -- ---- credit
 

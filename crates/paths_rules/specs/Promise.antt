@@ -3,18 +3,18 @@
 use Prim.Native.Nat.{ℕ, _+_, _-_, _*_, _^_, _≤_, _<_}
 use mathlib.Core.Path.{_≡_}
 use mathlib.Core.List.{List, [], _∷_, _++_}
-use mathlib.Core.Bool.{Bool, true, false, cond, not}
+use mathlib.Core.Bool.{Bool, true, false, cond, not, _&&_}
 use mathlib.Core.Option.{Option, none, some}
 use lib.ListN.{length}
 use lib.Dec.{eqb}
 use Rattle.lists.specs.Defs.{firstWith}
 use Rattle.values.specs.declared.address.FourTuple.{FourTuple}
 use Rattle.paths_rules.specs.With.{withListed}
-use Rattle.paths_rules.specs.Path.{listedAs, validated}
-use Rattle.paths_rules.specs.Table.{Table, Out, Inserted, freshCall, pathAt}
+use Rattle.paths_rules.specs.Path.{listedAs, validated, matches}
+use Rattle.paths_rules.specs.Table.{Table, Out, Inserted, Responded, refused, accepted, freshCall, pathAt}
 use Rattle.paths_rules.specs.Well.{well}
 use Rattle.paths_rules.specs.Calls.{Act, Initiate, Pop, Receive, Send, Respond, Credit, Charge, SetScid, SetDcid, SetActive, Verify, Look, Call, On, Insert}
-use Rattle.paths_rules.specs.Calls.{Timeout, Ping, Multipath, Ask, callFormed, apply, after, run}
+use Rattle.paths_rules.specs.Calls.{Timeout, Ping, Multipath, Ask, isMoment, callFormed, apply, after, run}
 
 -- ---- a fresh table not refused, on a server or not, with its factor
 
@@ -148,11 +148,16 @@ abbrev pub InsertionUnlists : Type 0
 InsertionUnlists = (p : ℕ) (a : FourTuple) (m : ℕ) (t : Table) → (apply t (Insert a m) .answer ≡ Inserted p → ⊥)
     → pathAt p (after t (Insert a m)) .listed ≡ true → pathAt p t .listed ≡ true
 
--- p becomes verified only by the mark, or by a response on p that is not yet Validated
+-- p becomes verified only by the mark, or by a response on p, not yet Validated, that matches a challenge in p's own sent list [2]
 abbrev pub OnlyVerified : Type 0
 OnlyVerified = (p : ℕ) (t : Table) (c : Call) → (c ≡ On p Verify → ⊥)
-    → ((d now : ℕ) → c ≡ On p (Respond d now) → validated (pathAt p t) ≡ false → ⊥)
+    → ((d now : ℕ) → c ≡ On p (Respond d now) → validated (pathAt p t) ≡ false → matches d (pathAt p t) ≡ true → ⊥)
     → pathAt p t .verified ≡ false → pathAt p (after t c) .verified ≡ false
+
+-- a response that matches no challenge in p's sent list answers no, without a span, and leaves the whole table, whatever p's state [2]
+abbrev pub Unasked : Type 0
+Unasked = (p d now : ℕ) (t : Table) → matches d (pathAt p t) ≡ false
+    → apply t (On p (Respond d now)) ≡ cond (well t && isMoment now) (accepted (Responded false []) t) (refused 1 t)
 
 -- only a credit to p, a charge to p, and an insertion that answers p change p's credit
 abbrev pub OnlyCredit : Type 0

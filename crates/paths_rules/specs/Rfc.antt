@@ -1,5 +1,5 @@
 -- RFC 9000, sections 8, 8.1, 8.2.1 to 8.2.4, 9.3 and 9.4, as rules on the table before a frame or event, the event, and what comes of it; which the
--- calls meet, which they meet but for a listed case, and where they differ. The ids D24 to D36 and D40 to D43 are rows of docs/DIFFERENCES.md. The proofs
+-- calls meet, which they meet but for a listed case, and where they differ. The ids D25 to D36 and D40 to D43 are rows of docs/DIFFERENCES.md. The proofs
 -- are in RfcProof.antt.
 use Prim.Native.Nat.{ℕ, _+_, _*_, _≤_, _<_}
 use mathlib.Core.Path.{_≡_}
@@ -8,14 +8,14 @@ use mathlib.Core.Bool.{Bool, true, false, not, _&&_, _||_}
 use mathlib.Core.Option.{none, some}
 use lib.ListN.{length}
 use lib.Dec.{eqb, leb, ltb}
-use Rattle.lists.specs.Defs.{any, all, empty, front}
+use Rattle.lists.specs.Defs.{any, all, empty, front, without}
 use Rattle.values.specs.declared.address.FourTuple.{FourTuple}
 use Rattle.values.specs.Limits.{maxShift, maxMoment, maxPathChalsRecv, maxPathChalsSent, maxProbingTimeouts, minClientInitialLen, minPathProbeSize}
 use Rattle.paths_rules.specs.State.{Path, Challenge}
-use Rattle.paths_rules.specs.Path.{rankFailed, challenge, lossTime, carries, probing, validated, validates, due}
-use Rattle.paths_rules.specs.Table.{Table, Out, Number, Flag, Maybe, pathAt, known, fresh}
+use Rattle.paths_rules.specs.Path.{rankFailed, challenge, lossTime, carries, matches, probing, validated, validates, due}
+use Rattle.paths_rules.specs.Table.{Table, Out, Inserted, Number, Flag, Maybe, pathAt, known, fresh}
 use Rattle.paths_rules.specs.Well.{well}
-use Rattle.paths_rules.specs.Calls.{Call, On, Insert, Timeout, Ask, Timer, Look, NeedsFrames, NeedsPadding, Allowed, Pop, Receive, Send, Respond, Credit, SetActive, Verify}
+use Rattle.paths_rules.specs.Calls.{Call, On, Insert, Timeout, Ping, Multipath, Ask, Timer, Look, NeedsFrames, NeedsPadding, Allowed, Pop, Receive, Send, Respond, Credit, SetActive, Verify}
 use Rattle.paths_rules.specs.Calls.{callFormed, apply, after, run}
 use Rattle.paths_rules.specs.Promise.{Starts, Begins, Lasts, Within, totalCredit, totalCharge, OnlyVerified}
 use Rattle.paths_rules.specs.Words.{pairA, pairB, pairC}
@@ -193,12 +193,9 @@ NoMoreOften t f o = pathAt (f .path) t .ask ≡ false → all (λ (c : Challenge
 -- where the path MTU is not validated, the endpoint MUST perform a second path validation (8.2.3: MUST initiate another): one is asked for
 abbrev pub ProbesAgain : Rule Response
 ProbesAgain t f o = known (f .path) t ≡ true → validated (pathAt (f .path) t) ≡ false
-    → pathAt (f .path) (o .table) .largest < minClientInitialLen → pathAt (f .path) (o .table) .ask ≡ true
+    → matches (f .«data») (pathAt (f .path) t) ≡ true → pathAt (f .path) (o .table) .largest < minClientInitialLen → pathAt (f .path) (o .table) .ask ≡ true
 
--- a challenge with the data d stands on the path p; one that was sent in a datagram of at least 1200 bytes
-abbrev pub matches : Table → ℕ → ℕ → Bool
-matches t p d = any (carries d) (pathAt p t .sent)
-
+-- a challenge with the data d stands on the path p that was sent in a datagram of at least 1200 bytes
 abbrev pub expanded : Table → ℕ → ℕ → Bool
 expanded t p d = any (λ (c : Challenge). carries d c && leb smallestSize (c .size)) (pathAt p t .sent)
 
@@ -254,32 +251,75 @@ poor t p = t .server && ltb (pathAt p t .credit) minPathProbeSize
 
 -- path validation succeeds when a PATH_RESPONSE contains the data of a PATH_CHALLENGE that stands on the path
 abbrev pub Succeeds : Rule Response
-Succeeds t f o = known (f .path) t ≡ true → matches t (f .path) (f .«data») ≡ true → pathAt (f .path) (o .table) .verified ≡ true
-
--- and only then
-abbrev pub OnlyWithData : Rule Response
-OnlyWithData t f o = matches t (f .path) (f .«data») ≡ false → pathAt (f .path) (o .table) .verified ≡ pathAt (f .path) t .verified
-
--- received on any path, it validates the path on which the PATH_CHALLENGE was sent
-abbrev pub OnAnyPath : Rule Response
-OnAnyPath t f o = (p : ℕ) → matches t p (f .«data») ≡ true → pathAt p (o .table) .verified ≡ true
-
--- the attempt ends: what was matched no longer stands
-abbrev pub AttemptEnds : Rule Response
-AttemptEnds t f o = known (f .path) t ≡ true → matches (o .table) (f .path) (f .«data») ≡ false
+Succeeds t f o = known (f .path) t ≡ true → matches (f .«data») (pathAt (f .path) t) ≡ true → pathAt (f .path) (o .table) .verified ≡ true
 
 -- the exception: a Validated path (D29)
 abbrev pub already : Table → Response → Bool
 already t f = validated (pathAt (f .path) t)
 
--- the data of any previous PATH_CHALLENGE, whatever happened since: s was sent on the path, in a datagram of 1200 bytes or more
+-- and only then [2]: no path is validated on which none with the data stands
+abbrev pub OnlyWithData : Rule Response
+OnlyWithData t f o = (p : ℕ) → matches (f .«data») (pathAt p t) ≡ false → pathAt p (o .table) .verified ≡ pathAt p t .verified
+
+-- received on any path, it validates the path on which the PATH_CHALLENGE was sent
+abbrev pub OnAnyPath : Rule Response
+OnAnyPath t f o = (p : ℕ) → matches (f .«data») (pathAt p t) ≡ true → pathAt p (o .table) .verified ≡ true
+
+-- the exceptions: one with the data stands on another path than the one that the host names (D25), or that one is Validated (D29)
+abbrev pub elsewhere : Table → Response → Bool
+elsewhere t f = any (matches (f .«data»)) (without (f .path) (t .paths))
+
+abbrev pub elsewhereOrAlready : Table → Response → Bool
+elsewhereOrAlready t f = elsewhere t f || already t f
+
+-- the attempt ends: what was matched no longer stands
+abbrev pub AttemptEnds : Rule Response
+AttemptEnds t f o = known (f .path) t ≡ true → matches (f .«data») (pathAt (f .path) (o .table)) ≡ false
+
+-- the data that was sent in a previous PATH_CHALLENGE, whatever happened since: s was sent on the path
 abbrev pub WithPrevious : Sent → Rule Response
-WithPrevious s t f o = s .path ≡ f .path → s .«data» ≡ f .«data» → minClientInitialLen ≤ s .size → validated (pathAt (f .path) (o .table)) ≡ true
+WithPrevious s t f o = f .path ≡ s .path → f .«data» ≡ s .«data» → pathAt (f .path) (o .table) .verified ≡ true
+
+-- through the calls the path stays: none is an insertion that answers p
+abbrev pub Remains : ℕ → Table → List Call → Type 0
+Remains p t [] = Unit {0}
+Remains p t (c ∷ cs) = ((a : FourTuple) (m : ℕ) → c ≡ Insert a m → apply t c .answer ≡ Inserted p → ⊥) × Remains p (after t c) cs
+
+-- a timeout took the challenges with the data d from the path p (D28)
+abbrev pub isTimeout : Call → Bool
+isTimeout (On p a) = false
+isTimeout (Insert a m) = false
+isTimeout (Timeout now) = true
+isTimeout (Ping o) = false
+isTimeout Multipath = false
+isTimeout (Ask s) = false
+
+abbrev pub timedOut : ℕ → ℕ → Table → List Call → Bool
+timedOut p d t [] = false
+timedOut p d t (c ∷ cs) = (isTimeout c && matches d (pathAt p t) && not (matches d (pathAt p (after t c)))) || timedOut p d (after t c) cs
+
+-- over any calls between the challenge s and the response f to it, the rule is met but where a timeout took the challenge (D28), the host names another
+-- path (D25, in the rule), or the path is Validated (D29)
+abbrev pub Previous : Type 0
+Previous = (t : Table) (s : Sent) → well t ≡ true → apply t (sent s) .refusal ≡ 0 → (cs : List Call) → Remains (s .path) (after t (sent s)) cs
+    → (f : Response) → callFormed (response f) ≡ true
+    → (timedOut (s .path) (s .«data») (after t (sent s)) cs || already (run (after t (sent s)) cs) f) ≡ false
+    → WithPrevious s (run (after t (sent s)) cs) f (apply (run (after t (sent s)) cs) (response f))
+
+-- the calls sent a PATH_CHALLENGE with the data d on the path p, and p stayed
+pub data Asked (p d : ℕ) : Table → List Call → Type 0 where
+  asked : (t : Table) (size now : ℕ) (cs : List Call) → Remains p (after t (On p (Send d size now))) cs → Asked p d t (On p (Send d size now) ∷ cs)
+  later : (t : Table) (c : Call) (cs : List Call) → Asked p d (after t c) cs → Asked p d t (c ∷ cs)
+
+-- and only by one that was sent [2]: after any calls from a fresh table, a response makes an address verified only where one of them sent its data, on that path
+abbrev pub OnlyPrevious : Type 0
+OnlyPrevious = (server : Bool) (factor : ℕ) (t : Table) → Starts server factor t → (cs : List Call) (f : Response) (p : ℕ)
+    → pathAt p (run t cs) .verified ≡ false → pathAt p (after (run t cs) (response f)) .verified ≡ true → (f .path ≡ p) × Asked p (f .«data») t cs
 
 -- where the challenge was sent in a datagram that is not expanded to at least 1200 bytes and the response to it validates the peer address, the path is
 -- validated but not the path MTU; as a result, the endpoint can send more than three times the data that it received
 abbrev pub AddressNotMtu : Rule Response
-AddressNotMtu t f o = known (f .path) t ≡ true → matches t (f .path) (f .«data») ≡ true → expanded t (f .path) (f .«data») ≡ false
+AddressNotMtu t f o = known (f .path) t ≡ true → matches (f .«data») (pathAt (f .path) t) ≡ true → expanded t (f .path) (f .«data») ≡ false
     → (pathAt (f .path) (o .table) .verified ≡ true) × (validated (pathAt (f .path) (o .table)) ≡ false) × ((n : ℕ) → permits (o .table) (f .path) n ≡ true)
 
 -- the exceptions: a Validated path (D29); the path remembers an expanded one, to which no calls lead (NoneRemembered)
@@ -299,7 +339,7 @@ hasFailed x = eqb (x .rank) rankFailed
 abbrev pub OnlyTimeoutFails : Rule Call
 OnlyTimeoutFails t c o = (p : ℕ) → ((now : ℕ) → c ≡ Timeout now → ⊥) → hasFailed (pathAt p t) ≡ false → hasFailed (pathAt p (o .table)) ≡ false
 
--- the next challenge begins an attempt: none stands, and the path is not being validated, or no loss was counted since the last response
+-- the next challenge begins an attempt: none stands, and the path is not being validated, or no loss was counted since the last response that matched
 abbrev pub begins : Table → ℕ → Bool
 begins t p = empty (pathAt p t .sent) && (not (probing (pathAt p t)) || eqb (pathAt p t .lost) 0)
 
@@ -381,6 +421,10 @@ pub record Conforms : Type 0 where
   pub prompt : MetUnless frames poor Prompt
   -- 8.2.3
   pub succeeds : MetUnless response already Succeeds
+  pub onlyWithData : Met response OnlyWithData
+  pub onAnyPath : MetUnless response elsewhereOrAlready OnAnyPath
+  pub previous : Previous
+  pub onlyPrevious : OnlyPrevious
   pub attemptEnds : MetUnless response already AttemptEnds
   pub addressNotMtu : MetUnless response alreadyOrRemembers AddressNotMtu
   pub onlyVerified : OnlyVerified
@@ -415,8 +459,6 @@ abbrev pub abandoned : Table
 abandoned = run (probe eight) (Timeout 25000 ∷ [])
 
 pub record Differs : Type 0 where
-  -- D24: without a match the address is verified
-  pub withoutData : DiffersAt response OnlyWithData (probe []) (record { path = 1; «data» = 0; now = 0 })
   -- D25: a response on path 0 does not validate path 1
   pub otherPath : DiffersAt response OnAnyPath (probe (On 1 (Send 7 1200 0) ∷ [])) (record { path = 0; «data» = 7; now = 0 })
   -- D26: a ninth received challenge drops the oldest

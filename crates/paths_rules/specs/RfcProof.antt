@@ -2,41 +2,34 @@
 use Prim.Native.Nat.{ℕ, zero, suc, _+_, _*_, _≤_, _<_, min, max}
 use mathlib.Core.Path.{_≡_, refl, sym, ap, ap₂, _∙_, subst}
 use mathlib.Core.List.{List, [], _∷_, _++_, map}
-use mathlib.Core.Bool.{Bool, true, false, cond, not, _&&_, _||_}
+use mathlib.Core.Bool.{Bool, true, false, cond, not, _&&_, _||_, or-true}
 use mathlib.Core.Option.{Option, none, some}
 use native.Mathlib.Omega.{arith}
 use native.Mathlib.Nat.{mul-le-mul-right}
 use lib.ListN.{length, drop, getD}
-use lib.Seq.{getD-set-same}
 use lib.Dec.{eqb, leb, ltb}
-use borrow.Author.Tests.{leb-true, leb-false, ltb-true, ltb-false, eqb-true, eqb-false, le-leb, le-ltb, lt-ltb, lt-leb, eq-eqb, ne-eqb, not-false}
-use Rattle.lists.specs.Defs.{any, empty, front, maybe, least, less, somes}
+use borrow.Author.Tests.{leb-true, leb-false, ltb-false, eqb-true, eqb-false, le-leb, le-ltb, lt-ltb, lt-leb, ne-eqb, not-false}
+use Rattle.lists.specs.Defs.{any, empty, front, maybe, least, less, somes, without}
 use Rattle.lists.specs.Bools.{and-both}
 use Rattle.values.specs.Limits.{maxPathChalsSent, maxProbingTimeouts, minClientInitialLen}
 use Rattle.paths_rules.specs.State.{Path, Challenge}
-use Rattle.paths_rules.specs.Path.{zeroPath, expire, probing, timeout, carries, matching, unmatched, lastSize, reached, largestAfter, challenge, respond, validated, validates}
+use Rattle.paths_rules.specs.Path.{zeroPath, expire, probing, timeout, carries, matches, matching, unmatched, lastSize, reached, largestAfter, challenge, heeds, respond, validated, validates}
 use Rattle.paths_rules.specs.With.{withActive, withSent, withAsk, withLost}
 use Rattle.paths_rules.specs.Path.{promote, rankFailed, rankValidating, rankValidatingMTU, rankValidated, due}
 use Rattle.paths_rules.specs.Table.{Table, Out, Answer, Nothing, Inserted, Number, Flag, Maybe, refused, accepted, pathAt, known, onPath, insert, fresh, freshFormed, zeroTable, timer as timerOf}
 use Rattle.paths_rules.specs.Calls.{Act, Initiate, Pop, Receive, Send, Respond, Credit, Charge, SetScid, SetDcid, SetActive, Verify, Look, NeedsFrames}
-use Rattle.paths_rules.specs.Calls.{NeedsPadding, Call, On, isMoment, step, after, run, effect, refusal, answer}
-use Rattle.paths_rules.specs.Steps.{both, decided, apply-is, act-holds, insert-holds, call-holds}
+use Rattle.paths_rules.specs.Calls.{NeedsPadding, Call, On, isMoment, step, apply, after, run, effect, refusal, answer}
+use Rattle.paths_rules.specs.Steps.{both, decided, never, or-neither, apply-is, act-is, path-is, act-holds, insert-holds, call-holds}
 use Rattle.paths_rules.specs.Frame.{only-verified, expire-holds, timeout-holds}
+use Rattle.paths_rules.specs.Previous.{is-known, sent-accepted, previous, only-previous}
 use Rattle.paths_rules.specs.Well.{well}
 use Rattle.paths_rules.specs.Promise.{starts}
 use Rattle.paths_rules.specs.Proof.{demand3}
 use Rattle.paths_rules.specs.Rfc.{Begun, Fired, response, received, sent, arrived, wished, begun, answered, frames, padding, timer, fired, itself, Rule, Met, MetUnless}
 use Rattle.paths_rules.specs.Rfc.{ThreeTimes, Three, largeFactor, Limits, onClient, permits, Several, far, smallestSize, Expands, notTold, ExpandsWithin, smallSize, ProbesAgain, expanded}
 use Rattle.paths_rules.specs.Rfc.{OnlyExpanded, remembers, NoneRemembered, alreadyOrRemembers, SingleLoss, lossesSurvive, TimerSet, ByTimer, AsksNoMore, asksStill, StaysActive, validatesSingle}
-use Rattle.paths_rules.specs.Rfc.{Keeps, eightStand, Unforgotten, atLimit, Echoes, OwnPath, Prompt, poor, Succeeds, AttemptEnds, already, AddressNotMtu}
+use Rattle.paths_rules.specs.Rfc.{Keeps, eightStand, Unforgotten, atLimit, Echoes, OwnPath, Prompt, poor, Succeeds, AttemptEnds, already, OnlyWithData, OnAnyPath, elsewhere, elsewhereOrAlready, AddressNotMtu}
 use Rattle.paths_rules.specs.Rfc.{OnlyByResponse, hasFailed, OnlyTimeoutFails, Abandons, stuck, Conforms, Differs}
-
-never : {A : Type 0} → true ≡ false → A
-never e = let z : _≡_ {A = ℕ} 0 1 = cc in absurd (omega arith)
-
-or-neither : (a b : Bool) → (a || b) ≡ false → (a ≡ false) × (b ≡ false)
-or-neither true b e = never e
-or-neither false b e = (refl, e)
 
 -- a rule is met if the step meets it
 module _ {A : Type 0} (call : A → Call) (R : Rule A) where
@@ -46,17 +39,7 @@ module _ {A : Type 0} (call : A → Call) (R : Rule A) where
   met-unless : (E : Table → A → Bool) → ((t : Table) (f : A) → E t f ≡ false → R t f (step t (call f))) → MetUnless call E R
   met-unless E k t f h c e = subst (R t f) (sym (apply-is t (call f) h c)) (k t f e)
 
--- ---- an act that is not refused, on a path that is known
-
-act-is : (t : Table) (p : ℕ) (a : Act) → refusal t p a ≡ 0 → step t (On p a) ≡ accepted (answer t p a) (onPath p (effect t a) t)
-act-is t p a e = ap (λ (b : Bool). cond b (accepted (answer t p a) (onPath p (effect t a) t)) (refused (refusal t p a) t)) (eq-eqb (refusal t p a) 0 e)
-
-path-is : (t : Table) (p : ℕ) (a : Act) → known p t ≡ true → refusal t p a ≡ 0 → pathAt p (step t (On p a) .table) ≡ effect t a (pathAt p t)
-path-is t p a k e =
-    ap (λ (o : Out). pathAt p (o .table)) (act-is t p a e)
-    ∙ getD-set-same (t .paths) p (effect t a (pathAt p t)) zeroPath (ltb-true p (length (t .paths)) k)
-
--- a fact of what the act makes of the path
+-- ---- a fact of what an act makes of the path
 acted : (P : Path → Type 0) (t : Table) (p : ℕ) (a : Act) → known p t ≡ true → refusal t p a ≡ 0 → P (effect t a (pathAt p t)) → P (pathAt p (step t (On p a) .table))
 acted P t p a k e h = subst P (sym (path-is t p a k e)) h
 
@@ -136,19 +119,21 @@ expands-within = met-unless padding ExpandsWithin smallSize (λ t p e a.
     test c d false true false true h k e = let z : _≡_ {A = ℕ} 0 1 = cc in absurd (omega arith)
     test c d true true false true h k e = let z : _≡_ {A = ℕ} 0 1 = cc in absurd (omega arith)
 
--- a response on a path not Validated: below 1200 it asks for another challenge, at 1200 or more it does not look at what stands
+-- a response on a path not Validated that matches: below 1200 it asks for another challenge, at 1200 or more it does not look at what stands. Without a
+-- match the path stays
 responded : (P : Path → Type 0) (d : ℕ) (multi : Bool) (x : Path) → validated x ≡ false
     → (minClientInitialLen ≤ largestAfter d x → P (withSent [] (withActive multi (promote rankValidated (reached d x)))))
-    → (largestAfter d x < minClientInitialLen → P (withAsk true (reached d x))) → P (respond d multi x)
-responded P d multi x v h k =
-    decided P (validated x) (λ e. never (sym e ∙ v))
+    → (largestAfter d x < minClientInitialLen → P (withAsk true (reached d x))) → (matches d x ≡ false → P x) → P (respond d multi x)
+responded P d multi x v h k n =
+    decided P (heeds d x)
     (λ e. decided P (leb minClientInitialLen (largestAfter d x)) (λ q. h (leb-true minClientInitialLen (largestAfter d x) q)) (λ q. k (leb-false minClientInitialLen (largestAfter d x) q)))
+    (λ e. n (sym (ap (λ (b : Bool). not b && matches d x) v) ∙ e))
 
 probes-again : Met response ProbesAgain
-probes-again = met response ProbesAgain (λ t f k v.
+probes-again = met response ProbesAgain (λ t f k v m.
     acted (λ (y : Path). y .largest < minClientInitialLen → y .ask ≡ true) t (f .path) (Respond (f .«data») (f .now)) k refl
     (responded (λ (y : Path). y .largest < minClientInitialLen → y .ask ≡ true) (f .«data») (t .multipath) (pathAt (f .path) t) v
-    (λ h l. absurd (omega arith)) (λ h l. refl)))
+    (λ h l. absurd (omega arith)) (λ h l. refl) (λ n. never (sym m ∙ n))))
 
 -- Validated only with 1200 or more; and only by a response
 
@@ -202,7 +187,7 @@ only-expanded = met-unless response OnlyExpanded remembers (λ t f e v.
     act-holds P (f .path) t (λ w. never (sym w ∙ v)) (f .path) (Respond (f .«data») (f .now))
     (λ z s. responded P (f .«data») (t .multipath) x v
     (λ h w. last-expanded (f .«data») 0 (x .sent) (omega arith) (omega (arith, leb-false smallestSize (x .largest) e)))
-    (λ h w. never (sym w ∙ not-raised (x .rank) rankValidatingMTU (omega arith) v))))
+    (λ h w. never (sym w ∙ not-raised (x .rank) rankValidatingMTU (omega arith) v)) (λ n w. never (sym w ∙ v))))
 
 -- of a path from a fresh table: a rank of those that have a name, and below Validated a largest size below 1200
 abbrev Forgets : Path → Type 0
@@ -234,10 +219,10 @@ forgets-call p t c k = call-holds Forgets p t k (λ a x h. h) (λ x h. h) c (λ 
     act (Receive d) z e = k
     act (Send d size now) z e = (omega (arith, k .0), λ r. k .1 (omega arith))
     act (Respond d now) z e =
-        decided Forgets (validated x) (λ v. k)
-        (λ v. decided Forgets (leb minClientInitialLen (largestAfter d x))
+        both Forgets (heeds d x)
+        (decided Forgets (leb minClientInitialLen (largestAfter d x))
         (λ q. (omega (arith, k .0), λ r. absurd (omega arith)))
-        (λ q. (omega (arith, k .0), λ r. leb-false minClientInitialLen (largestAfter d x) q)))
+        (λ q. (omega (arith, k .0), λ r. leb-false minClientInitialLen (largestAfter d x) q))) k
     act (Credit n) z e = both Forgets (t .server) (both Forgets (pathAt p t .verified) k k) k
     act (Charge n) z e = both Forgets (t .server) (both Forgets (pathAt p t .verified) k k) k
     act (SetScid o) z e = k
@@ -305,7 +290,33 @@ prompt = met-unless frames Prompt poor (λ t p e k r.
 succeeds : MetUnless response already Succeeds
 succeeds = met-unless response Succeeds already (λ t f v k m.
     acted (λ (y : Path). y .verified ≡ true) t (f .path) (Respond (f .«data») (f .now)) k refl
-    (responded (λ (y : Path). y .verified ≡ true) (f .«data») (t .multipath) (pathAt (f .path) t) v (λ h. refl) (λ h. refl)))
+    (responded (λ (y : Path). y .verified ≡ true) (f .«data») (t .multipath) (pathAt (f .path) t) v (λ h. refl) (λ h. refl) (λ n. never (sym m ∙ n))))
+
+only-with-data : Met response OnlyWithData
+only-with-data = met response OnlyWithData (λ t f p n.
+    let P : Path → Type 0 = λ y. y .verified ≡ pathAt p t .verified in
+    act-holds P p t refl (f .path) (Respond (f .«data») (f .now)) (λ z s.
+    rw s (decided P (heeds (f .«data») (pathAt p t)) (λ v. never (sym (and-both (not (validated (pathAt p t))) _ v .1) ∙ n)) (λ v. refl))))
+
+-- with the data on no other path, a path on which it stands is the one named
+named : (l : List Path) (d i p : ℕ) → any (matches d) (without i l) ≡ false → matches d (getD l p zeroPath) ≡ true → i ≡ p
+named [] d i p n e = never (sym e)
+named (x ∷ l) d zero zero n e = refl
+named (x ∷ l) d zero (suc p) n e = never (sym (any-at l p e) ∙ n)
+  where
+    any-at : (l : List Path) (p : ℕ) → matches d (getD l p zeroPath) ≡ true → any (matches d) l ≡ true
+    any-at [] p e = never (sym e)
+    any-at (x ∷ l) zero e = ap (λ (b : Bool). b || any (matches d) l) e
+    any-at (x ∷ l) (suc p) e = ap (λ (b : Bool). matches d x || b) (any-at l p e) ∙ or-true (matches d x)
+named (x ∷ l) d (suc i) zero n e = never (sym e ∙ or-neither (matches d x) _ n .0)
+named (x ∷ l) d (suc i) (suc p) n e = ap suc (named l d i p (or-neither (matches d x) _ n .1) e)
+
+on-any-path : MetUnless response elsewhereOrAlready OnAnyPath
+on-any-path t f h c e p m =
+    let w = or-neither (elsewhere t f) (already t f) e in
+    let z : f .path ≡ p = named (t .paths) (f .«data») (f .path) p (w .0) m in
+    subst (λ (q : ℕ). pathAt q (apply t (response f) .table) .verified ≡ true) z
+    (let v : matches (f .«data») (pathAt (f .path) t) ≡ true = rw z m in succeeds t f h c (w .1) (is-known (matches (f .«data»)) refl (t .paths) (f .path) v) v)
 
 none-left : (d : ℕ) (l : List Challenge) → any (carries d) (unmatched d l) ≡ false
 none-left d [] = refl
@@ -319,7 +330,7 @@ attempt-ends : MetUnless response already AttemptEnds
 attempt-ends = met-unless response AttemptEnds already (λ t f v k.
     acted (λ (y : Path). any (carries (f .«data»)) (y .sent) ≡ false) t (f .path) (Respond (f .«data») (f .now)) k refl
     (responded (λ (y : Path). any (carries (f .«data»)) (y .sent) ≡ false) (f .«data») (t .multipath) (pathAt (f .path) t) v
-    (λ h. refl) (λ h. none-left (f .«data») (pathAt (f .path) t .sent))))
+    (λ h. refl) (λ h. none-left (f .«data») (pathAt (f .path) t .sent)) (λ n. n)))
 
 -- a verified address has no limit
 lifted : (t : Table) (p n : ℕ) → pathAt p t .verified ≡ true → permits t p n ≡ true
@@ -340,7 +351,7 @@ address-not-mtu = met-unless response AddressNotMtu alreadyOrRemembers (λ t f e
     acted P t (f .path) (Respond d (f .now)) k refl
     (responded P d (t .multipath) x (w .0)
     (λ h. never (sym (last-expanded d 0 (x .sent) (omega arith) (omega (arith, leb-false smallestSize (x .largest) (w .1)))) ∙ n))
-    (λ h. (refl, not-raised (x .rank) rankValidatingMTU (omega arith) (w .0)))) in
+    (λ h. (refl, not-raised (x .rank) rankValidatingMTU (omega arith) (w .0))) (λ z. never (sym m ∙ z))) in
     (u .0, u .1, λ b. lifted (step t (response f) .table) (f .path) b (u .0)))
 
 -- ---- 8.2.4
@@ -365,9 +376,9 @@ only-timeout-fails t c h f p other g =
     act (Receive d) z e = g
     act (Send d size now) z e = still-going (x .rank) rankValidating g
     act (Respond d now) z e =
-        decided Going (validated x) (λ v. g)
-        (λ v. both Going (leb minClientInitialLen (largestAfter d x))
-        (still-going (max (x .rank) rankValidatingMTU) rankValidated (still-going (x .rank) rankValidatingMTU g)) (still-going (x .rank) rankValidatingMTU g))
+        both Going (heeds d x)
+        (both Going (leb minClientInitialLen (largestAfter d x))
+        (still-going (max (x .rank) rankValidatingMTU) rankValidated (still-going (x .rank) rankValidatingMTU g)) (still-going (x .rank) rankValidatingMTU g)) g
     act (Credit n) z e = both Going (t .server) (both Going (pathAt p t .verified) g g) g
     act (Charge n) z e = both Going (t .server) (both Going (pathAt p t .verified) g g) g
     act (SetScid o) z e = g
@@ -401,8 +412,9 @@ single-loss = met-unless sent SingleLoss lossesSurvive (λ t f e i r now.
     let x : Path = pathAt p t in
     let a : Act = Send (f .«data») (f .size) (f .now) in
     let u : Table = step t (sent f) .table in
-    let z : refusal t p a ≡ 0 = accepted-is (refusal t p a) (accepted (answer t p a) (onPath p (effect t a) t)) t r in
-    let k : known p t ≡ true = known-is (known p t) _ z in
+    let b = sent-accepted t f r in
+    let z : refusal t p a ≡ 0 = b .0 in
+    let k : known p t ≡ true = b .1 in
     let y : Path = effect t a x in
     let g : Going y = ne-eqb (max (x .rank) rankValidating) rankFailed (λ q. omega arith) in
     let h : Going (expire now (y .sent) y) =
@@ -411,17 +423,6 @@ single-loss = met-unless sent SingleLoss lossesSurvive (λ t f e i r now.
     both (λ (o : Out). Going (pathAt p (o .table))) (well u && isMoment now)
     (subst Going (sym (timed-is now (u .paths) p)) (subst (λ (v : Path). Going (timeout now v)) (sym (path-is t p a k z)) (both Going (probing y) h g)))
     (subst Going (sym (path-is t p a k z)) g))
-  where
-    accepted-is : (n : ℕ) (o : Out) (w : Table) → cond (eqb n 0) o (refused n w) .refusal ≡ 0 → n ≡ 0
-    accepted-is n o w = test (eqb n 0) refl
-      where
-        test : (b : Bool) → eqb n 0 ≡ b → cond b o (refused n w) .refusal ≡ 0 → n ≡ 0
-        test true q e = eqb-true n 0 q
-        test false q e = e
-
-    known-is : (b : Bool) (n : ℕ) → cond (not b) 2 n ≡ 0 → b ≡ true
-    known-is true n e = refl
-    known-is false n e = absurd (omega arith)
 
 -- the front's deadline has come, and it is the eighth loss
 fails : (now : ℕ) (l : List Challenge) (x : Path) (c : Challenge) → front l ≡ some c → c .deadline ≤ now → maxProbingTimeouts ≤ x .lost + 1
@@ -532,17 +533,17 @@ stays-active = met-unless response StaysActive validatesSingle (λ t f e p a.
     act-holds (λ (y : Path). y .active ≡ true) p t a (f .path) (Respond (f .«data») (f .now))
     (λ z s. stays (f .«data») (t .multipath) (pathAt (f .path) t) e (rw s a)))
   where
-    on : (m v b : Bool) → (not m && (not v && b)) ≡ false → v ≡ false → b ≡ true → m ≡ true
+    on : (m v b : Bool) → (not m && (v && b)) ≡ false → v ≡ true → b ≡ true → m ≡ true
     on true v b e g h = refl
-    on false true b e g h = never g
-    on false false true e g h = never e
-    on false false false e g h = never (sym h)
+    on false false b e g h = never (sym g)
+    on false true true e g h = never e
+    on false true false e g h = never (sym h)
 
     stays : (d : ℕ) (multi : Bool) (x : Path) → (not multi && validates d x) ≡ false → x .active ≡ true → respond d multi x .active ≡ true
     stays d multi x e a =
         let P : Path → Type 0 = λ y. y .active ≡ true in
-        decided P (validated x) (λ v. a)
-        (λ v. decided P (leb minClientInitialLen (largestAfter d x)) (λ q. on multi (validated x) (leb minClientInitialLen (largestAfter d x)) e v q) (λ q. a))
+        decided P (heeds d x)
+        (λ v. decided P (leb minClientInitialLen (largestAfter d x)) (λ q. on multi (heeds d x) (leb minClientInitialLen (largestAfter d x)) e v q) (λ q. a)) (λ v. a)
 
 -- ---- the whole
 
@@ -563,6 +564,10 @@ conforms = record {
   ownPath = own-path;
   prompt = prompt;
   succeeds = succeeds;
+  onlyWithData = only-with-data;
+  onAnyPath = on-any-path;
+  previous = previous;
+  onlyPrevious = only-previous;
   attemptEnds = attempt-ends;
   addressNotMtu = address-not-mtu;
   onlyVerified = only-verified;
@@ -578,13 +583,12 @@ conforms = record {
 
 pub differs : Differs
 differs = record {
-  withoutData = λ r. never (r refl);
   otherPath = λ r. never (sym (r 1 refl));
   ninth = λ r. let e = r refl in let z : _≡_ {A = ℕ} 0 1 = cc in omega arith;
   soon = λ r. never (r refl refl);
   often = λ r. never (r refl refl);
   aggressive = λ r. never (sym r);
-  tooLate = λ r. never (sym (r refl refl (omega arith)));
+  tooLate = λ r. never (sym (r refl refl));
   staysMatched = λ r. never (r refl);
   staysUnverified = λ r. never (sym (r refl refl));
   staysLimited = λ r. never (sym (r refl refl refl .0));

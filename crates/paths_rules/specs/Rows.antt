@@ -132,9 +132,11 @@ actRows =
     ++ acts bare (Receive 9) (withPeerVerified true (withReceived (9 ∷ []) bare)) Nothing
     ++ acts rich (Send 9 1300 40) (withAsk false (withSent (sent2 ++ (chal 9 1300 40 800040 ∷ [])) rich)) Nothing
     ++ acts bare (Send 9 1 40) (withRank 2 (withSent (chal 9 1 40 25040 ∷ []) bare)) Nothing
-    -- without a match, with one below 1200, with one of 1500
-    ++ acts rich (Respond 9 40) (withLost 0 rich) (Responded false [])
-    ++ acts bare (Respond 9 40) (withVerified true (withRank 3 (withAsk true bare))) (Responded false [])
+    -- without a match, also where one stands on the path before it or behind it; with one below 1200, with one of 1500
+    ++ acts rich (Respond 9 40) rich (Responded false [])
+    ++ acts bare (Respond 9 40) bare (Responded false [])
+    ++ acts unverified (Respond 34 40) unverified (Responded false [])
+    ++ acts unverified (Respond 44 40) unverified (Responded false [])
     ++ acts unverified (Respond 15 40) (withVerified true (withLost 0 (withLargest 1100 (withSent (chal 18 1500 19 20 ∷ []) unverified)))) (Responded false (24 ∷ []))
     ++ four (λ s m. row (around s m unverified) (On 1 (Respond 18 40))
     (accepted (Responded true (21 ∷ [])) (around s m (withVerified true (withLost 0 (withLargest 1500 (withSent [] (withRank 4 (withActive m unverified)))))))))
@@ -196,7 +198,8 @@ turnedRows =
     ++ each turnedRich (Send 9 1300 40) (λ x. withAsk false (withSent (sent2 ++ (chal 9 1300 40 800040 ∷ [])) x)) Nothing
     ++ each turnedBare (Send 9 1 40) (λ x. withAsk false (withRank 2 (withSent (chal 9 1 40 25040 ∷ []) x))) Nothing
     ++ each turnedRich (Respond 18 40) (λ x. withVerified true (withLost 0 (withLargest 1500 (withSent [] (withRank 4 (withActive false x)))))) (Responded true (21 ∷ []))
-    ++ each turnedBare (Respond 9 40) (λ x. withVerified true (withRank 3 (withAsk true x))) (Responded false [])
+    ++ each (map (withSent (chal 9 0 16 17 ∷ [])) turnedBare) (Respond 9 40) (λ x. withVerified true (withRank 3 (withAsk true (withSent [] x)))) (Responded false (24 ∷ []))
+    ++ each turned (Respond 9 40) (λ x. x) (Responded false [])
     ++ each (map (withVerified false) turned) (Credit 3) (λ x. withCredit (x .credit + 21) x) Nothing
     ++ each (map (withVerified false) turned) (Charge 3) (λ x. withCredit (x .credit - 3) x) Nothing
     ++ each (map (withVerified true) turned) (Credit 3) (λ x. x) Nothing

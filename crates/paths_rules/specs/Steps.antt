@@ -2,18 +2,19 @@
 use Prim.Native.Nat.{ℕ, zero, suc, _≤_}
 use mathlib.Core.Path.{_≡_, refl, sym, ap, ap₂, _∙_}
 use mathlib.Core.List.{List, [], _∷_, _++_, map}
-use mathlib.Core.Bool.{Bool, true, false, cond, _&&_}
+use mathlib.Core.Bool.{Bool, true, false, cond, _&&_, _||_}
 use mathlib.Core.Option.{Option, none, some}
 use native.Mathlib.Omega.{arith}
 use lib.ListN.{length, getD, set, length-set, length-map, length-append}
 use lib.Dec.{eqb, ltb}
-use borrow.Author.Tests.{eqb-true}
+use lib.Seq.{getD-set-same}
+use borrow.Author.Tests.{eqb-true, eq-eqb, ltb-true}
 use Rattle.lists.specs.Defs.{firstWith}
 use Rattle.values.specs.declared.address.FourTuple.{FourTuple}
 use Rattle.paths_rules.specs.State.{Path}
 use Rattle.paths_rules.specs.With.{withPing}
 use Rattle.paths_rules.specs.Path.{zeroPath, newPath, timeout, unlist, inUse, unused, flagged, listedAs}
-use Rattle.paths_rules.specs.Table.{Table, Out, Inserted, refused, accepted, pathAt, withPaths, onPath, onAll, appended, replaced, evict, insert, pingAt}
+use Rattle.paths_rules.specs.Table.{Table, Out, Inserted, refused, accepted, pathAt, known, withPaths, onPath, onAll, appended, replaced, evict, insert, pingAt}
 use Rattle.paths_rules.specs.Table.{pingInUse, pingOn, multipathOn}
 use Rattle.paths_rules.specs.Well.{well}
 use Rattle.paths_rules.specs.Calls.{Act, Call, On, Insert, Timeout, Ping, Multipath, Ask, Survey, Len, IdOf, GetActive, Timer, survey, activeOut, callFormed}
@@ -29,6 +30,13 @@ pub decided : {A : Type 0} (P : A → Type 0) {x y : A} (b : Bool) → (b ≡ tr
 decided P true h k = h refl
 decided P false h k = k refl
 
+pub never : {A : Type 0} → true ≡ false → A
+never e = let z : _≡_ {A = ℕ} 0 1 = cc in absurd (omega arith)
+
+pub or-neither : (a b : Bool) → (a || b) ≡ false → (a ≡ false) × (b ≡ false)
+or-neither true b e = never e
+or-neither false b e = (refl, e)
+
 -- a call with arguments of their form, on a well-formed table, is its step
 pub apply-is : (t : Table) (c : Call) → well t ≡ true → callFormed c ≡ true → apply t c ≡ step t c
 apply-is t c h f = ap (λ (b : Bool). cond b (step t c) (refused 1 t)) (ap₂ _&&_ h f)
@@ -43,6 +51,16 @@ survey-same t GetActive = test (firstWith flagged (t .paths))
     test none = refl
     test (some i) = refl
 survey-same t Timer = refl
+
+-- ---- an act that is not refused, on a path that is known
+
+pub act-is : (t : Table) (p : ℕ) (a : Act) → refusal t p a ≡ 0 → step t (On p a) ≡ accepted (answer t p a) (onPath p (effect t a) t)
+act-is t p a e = ap (λ (b : Bool). cond b (accepted (answer t p a) (onPath p (effect t a) t)) (refused (refusal t p a) t)) (eq-eqb (refusal t p a) 0 e)
+
+pub path-is : (t : Table) (p : ℕ) (a : Act) → known p t ≡ true → refusal t p a ≡ 0 → pathAt p (step t (On p a) .table) ≡ effect t a (pathAt p t)
+path-is t p a k e =
+    ap (λ (o : Out). pathAt p (o .table)) (act-is t p a e)
+    ∙ getD-set-same (t .paths) p (effect t a (pathAt p t)) zeroPath (ltb-true p (length (t .paths)) k)
 
 -- ---- lists
 

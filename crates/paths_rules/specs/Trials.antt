@@ -1,4 +1,4 @@
--- docs/RULES.md, "Worked trials", 9 to 14, on the definitions: one table, and one theorem.
+-- docs/RULES.md, "Worked trials", 9 to 15, on the definitions: one table, and one theorem.
 use Prim.Native.Nat.{ℕ, _-_, _^_}
 use mathlib.Core.Path.{_≡_, refl}
 use mathlib.Core.List.{List, [], _∷_, _++_, map}
@@ -86,6 +86,8 @@ table =
     ∷ row 13 two 1 (seven ++ (On 1 (Send 0 1200 3175000) ∷ [])) (Timeout 6374999) (sees Nothing rankValidating [] 7)
     ∷ row 13 two 1 (seven ++ (On 1 (Send 0 1200 3175000) ∷ [])) (Timeout 6375000) (sees Nothing rankFailed [] 8)
     ∷ row 14 server 0 [] (On 0 (Credit (2 ^ 63))) (plain Nothing 1 rankValidated (2 ^ 64 - 1))
+    ∷ row 15 two 1 [] (On 1 (Respond 0 0)) (plain (Responded false []) 2 rankUnknown 0)
+    ∷ row 15 two 1 (On 1 (Respond 0 0) ∷ []) (On 1 (Look (Allowed 5))) (plain (Number 0) 2 rankUnknown 0)
     ∷ []
 
 -- ---- the theorem: each row sees what it says

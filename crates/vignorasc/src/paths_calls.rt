@@ -219,7 +219,8 @@ pub extern "C" fn vig_paths_on_path_chal_received(t: &mut Paths, id: u64, data: 
     a.answer
 }
 
-// A PATH_RESPONSE frame came: the answer is whether the path is now Validated, and a span for each challenge that it matched.
+// A PATH_RESPONSE frame came: the answer is whether the path is now Validated, and a span for each challenge that it matched; by one that matches none, nothing
+// changes [2].
 #[no_mangle]
 pub extern "C" fn vig_paths_on_path_resp_received(
     t: &mut Paths,

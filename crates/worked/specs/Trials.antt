@@ -1,4 +1,4 @@
--- docs/RULES.md, "Worked trials", 1 to 14: one table over both sets of rules, one theorem that every row computes, and that no trial is missing.
+-- docs/RULES.md, "Worked trials", 1 to 15: one table over both sets of rules, one theorem that every row computes, and that no trial is missing.
 use Prim.Native.Nat.{ℕ}
 use mathlib.Core.Path.{_≡_, refl}
 use mathlib.Core.List.{List, [], _∷_, _++_, map}
@@ -37,5 +37,5 @@ number (OfIds r) = r .trial
 number (OfPaths r) = r .trial
 
 -- each trial has a row
-pub complete : all (λ (n : ℕ). has n (map number table)) (1 ∷ 2 ∷ 3 ∷ 4 ∷ 5 ∷ 6 ∷ 7 ∷ 8 ∷ 9 ∷ 10 ∷ 11 ∷ 12 ∷ 13 ∷ 14 ∷ []) ≡ true
+pub complete : all (λ (n : ℕ). has n (map number table)) (1 ∷ 2 ∷ 3 ∷ 4 ∷ 5 ∷ 6 ∷ 7 ∷ 8 ∷ 9 ∷ 10 ∷ 11 ∷ 12 ∷ 13 ∷ 14 ∷ 15 ∷ []) ≡ true
 complete = refl

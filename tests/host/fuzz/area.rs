@@ -154,6 +154,6 @@ fn verdict<S: State>(
     } else if formed && !after.broken().is_empty() {
         Err("and the state isn't well formed any more")
     } else {
-        Ok(())
+        S::against(call.name, before.get(), after.get()).map_or(Ok(()), Err)
     }
 }

@@ -21,6 +21,11 @@ pub trait State: Copy + PartialEq + Parts + 'static {
 
     /// Changes a field or some, in a way that is made to break a conjunct.
     fn damage(&mut self, random: &mut Random);
+
+    /// What a call that was accepted did against a rule of RULES.md that is read again here.
+    fn against(_call: &str, _before: &Self, _after: &Self) -> Option<&'static str> {
+        None
+    }
 }
 
 pub struct Call<S> {

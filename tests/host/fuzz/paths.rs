@@ -74,6 +74,22 @@ impl State for Paths {
             _ => damage_path(&mut self.items[i], random),
         }
     }
+
+    /// "Challenges": a response takes challenges out of one path's own list and verifies its address, or changes nothing [2]. No
+    /// other call but the mark verifies one.
+    fn against(call: &str, before: &Paths, after: &Paths) -> Option<&'static str> {
+        let changed: Vec<_> = before.items.iter().zip(&after.items).filter(|(old, new)| old != new).collect();
+        let answered = |(old, new): &(&Path, &Path)| new.sent_chals.count < old.sent_chals.count && new.verified_peer_address;
+        let verified = changed.iter().any(|(old, new)| new.verified_peer_address && !old.verified_peer_address);
+        match call {
+            "vig_paths_mark_verified" => None,
+            "vig_paths_on_path_resp_received" => {
+                let asked = changed.len() == 1 && changed.iter().all(answered);
+                (before != after && !asked).then_some("and a response that nobody asked for has changed the state")
+            }
+            _ => verified.then_some("and an address is verified by it"),
+        }
+    }
 }
 
 /// Some paths go, perhaps all; what is left has zeros past it.
