@@ -17,7 +17,7 @@ use Rattle.paths_rules.specs.Path.{newPath, zeroPath, carries, matches, 
 use Rattle.paths_rules.specs.Table.{Table, Out, Nothing, Inserted, refused, accepted, pathAt, known, fresh, freshFormed, zeroTable}
 use Rattle.paths_rules.specs.Calls.{Act, Initiate, Pop, Receive, Send, Respond, Credit, Charge, SetScid, SetDcid, SetActive, Verify, Look, Call, On, Insert, Timeout}
 use Rattle.paths_rules.specs.Calls.{callFormed, step, apply, after, run, effect, refusal, answer}
-use Rattle.paths_rules.specs.Steps.{both, decided, never, or-neither, apply-is, path-is, act-holds, call-holds}
+use Rattle.paths_rules.specs.Steps.{both, decided, never, or-neither, apply-is, act-is, path-is, act-holds, call-holds}
 use Rattle.paths_rules.specs.Frame.{timeout-holds}
 use Rattle.paths_rules.specs.Kept.{run-well, keeps-well}
 use Rattle.paths_rules.specs.Proof.{after-new}
@@ -183,9 +183,8 @@ module _ (p d : ℕ) where
     -- what stands after a call stood before it, and the call inserts no path there, or the call sent it
     one-traced : matches d (pathAt p (after t c)) ≡ true
         → (matches d (pathAt p t) ≡ true → ((a : FourTuple) (m : ℕ) → c ≡ Insert a m → apply t c .answer ≡ Inserted p → ⊥) → C)
-        → ((size now : ℕ) → c ≡ On p (Send d size now) → C) → C
-    one-traced e stood sends =
-        call-holds P p t (λ k. stood k remains) (λ a x k. k) (λ x k. k) c (λ now i x k. timed now x k) act (λ a m i n k. never (sym k)) e
+        → ((size now : ℕ) → c ≡ On p (Send d size now) → apply t c .refusal ≡ 0 → C) → C
+    one-traced e stood sends = test (well t && callFormed c) refl
       where
         P : Path → Type 0
         P y = matches d y ≡ true → C
@@ -204,19 +203,30 @@ module _ (p d : ℕ) where
         h : P x
         h k = stood k remains
 
-        act : (a : Act) → refusal t p a ≡ 0 → c ≡ On p a → P (effect t a (pathAt p t))
-        act Initiate z i = h
-        act Pop z i = h
-        act (Receive d) z i = h
-        act (Send b size now) z i = λ k. stood-before (x .sent) (challenge b size now (x .lost)) k h (λ m. sends size now (rw (← eqb-true b d m) i))
-        act (Respond b now) z i = both P (heeds b x) (both P (leb minClientInitialLen (largestAfter b x)) (λ k. never (sym k)) (λ k. h (stood-kept b (x .sent) k))) h
-        act (Credit n) z i = both P (t .server) (both P (x .verified) h h) h
-        act (Charge n) z i = both P (t .server) (both P (x .verified) h h) h
-        act (SetScid o) z i = h
-        act (SetDcid o) z i = h
-        act (SetActive b) z i = h
-        act Verify z i = h
-        act (Look r) z i = h
+        accepted-is : (well t && callFormed c) ≡ true → (a : Act) → refusal t p a ≡ 0 → c ≡ On p a → apply t c .refusal ≡ 0
+        accepted-is w a z i =
+            ap (λ (b : Bool). cond b (step t c) (refused 1 t) .refusal) w
+            ∙ ap (λ (b : Call). step t b .refusal) i ∙ ap (λ (o : Out). o .refusal) (act-is t p a z)
+
+        act : (well t && callFormed c) ≡ true → (a : Act) → refusal t p a ≡ 0 → c ≡ On p a → P (effect t a (pathAt p t))
+        act w Initiate z i = h
+        act w Pop z i = h
+        act w (Receive d) z i = h
+        act w (Send b size now) z i = λ k.
+            stood-before (x .sent) (challenge b size now (x .lost)) k h
+            (λ m. sends size now (i ∙ ap (λ (n : ℕ). On p (Send n size now)) (eqb-true b d m)) (accepted-is w (Send b size now) z i))
+        act w (Respond b now) z i = both P (heeds b x) (both P (leb minClientInitialLen (largestAfter b x)) (λ k. never (sym k)) (λ k. h (stood-kept b (x .sent) k))) h
+        act w (Credit n) z i = both P (t .server) (both P (x .verified) h h) h
+        act w (Charge n) z i = both P (t .server) (both P (x .verified) h h) h
+        act w (SetScid o) z i = h
+        act w (SetDcid o) z i = h
+        act w (SetActive b) z i = h
+        act w Verify z i = h
+        act w (Look r) z i = h
+
+        test : (b : Bool) → (well t && callFormed c) ≡ b → C
+        test true w = call-holds P p t h (λ a x k. k) (λ x k. k) c (λ now i y k. timed now y k) (act w) (λ a m i n k. never (sym k)) e
+        test false w = h (sym (ap (λ (b : Bool). matches d (pathAt p (cond b (step t c) (refused 1 t) .table))) w) ∙ e)
 
   traced : {C : Type 0} (cs : List Call) (t : Table) → matches d (pathAt p (run t cs)) ≡ true
       → (matches d (pathAt p t) ≡ true → Remains p t cs → C) → (Asked p d t cs → C) → C
@@ -224,7 +234,9 @@ module _ (p d : ℕ) where
   traced (c ∷ cs) t e stood sends =
       traced cs (after t c) e
       (λ m r. one-traced t c m (λ k n. stood k (n, r))
-      (λ size now i. sends (subst (λ (b : Call). Asked p d t (b ∷ cs)) (sym i) (asked t size now cs (subst (λ (b : Call). Remains p (after t b) cs) i r)))))
+      (λ size now i z.
+      sends (subst (λ (b : Call). Asked p d t (b ∷ cs)) (sym i)
+      (asked t size now cs (sym (ap (λ (b : Call). apply t b .refusal) i) ∙ z) (subst (λ (b : Call). Remains p (after t b) cs) i r)))))
       (λ a. sends (later t c cs a))
 
 pub previous : Previous
@@ -311,10 +323,12 @@ between = On 1 (Respond 8 5) ∷ On 0 (Respond 7 5) ∷ Timeout 24999 ∷ On 1 (
 
 pub exchanged : (pathAt 1 (run (after two (sent probe)) between) .verified ≡ false)
     × (pathAt 1 (after (run (after two (sent probe)) between) (On 1 (Respond 7 24999))) .verified ≡ true)
-exchanged =
-    (refl, previous two probe refl refl between
-    ((λ a m i e. act i), ((λ a m i e. act i), ((λ a m i e. let z : _≡_ {A = ℕ} 0 1 = cc in omega arith), ((λ a m i e. act i), ((λ a m i e. act i), tt)))))
-    (record { path = 1; «data» = 7; now = 24999 }) refl refl refl refl)
+exchanged = (
+  refl,
+  previous two probe refl refl between
+      ((λ a m i e. act i), ((λ a m i e. act i), ((λ a m i e. let z : _≡_ {A = ℕ} 0 1 = cc in omega arith), ((λ a m i e. act i), ((λ a m i e. act i), tt)))))
+      (record { path = 1; «data» = 7; now = 24999 }) refl refl refl refl,
+)
   where
     -- a call on one path is no insertion
     act : {q m : ℕ} {b : Act} {a : FourTuple} → On q b ≡ Insert a m → ⊥

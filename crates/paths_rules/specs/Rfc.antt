@@ -306,9 +306,10 @@ Previous = (t : Table) (s : Sent) → well t ≡ true → apply t (sent s) .refu
     → (timedOut (s .path) (s .«data») (after t (sent s)) cs || already (run (after t (sent s)) cs) f) ≡ false
     → WithPrevious s (run (after t (sent s)) cs) f (apply (run (after t (sent s)) cs) (response f))
 
--- the calls sent a PATH_CHALLENGE with the data d on the path p, and p stayed
+-- one of the calls sent a PATH_CHALLENGE with the data d on the path p and was not refused, and p stayed
 pub data Asked (p d : ℕ) : Table → List Call → Type 0 where
-  asked : (t : Table) (size now : ℕ) (cs : List Call) → Remains p (after t (On p (Send d size now))) cs → Asked p d t (On p (Send d size now) ∷ cs)
+  asked : (t : Table) (size now : ℕ) (cs : List Call) → apply t (On p (Send d size now)) .refusal ≡ 0
+      → Remains p (after t (On p (Send d size now))) cs → Asked p d t (On p (Send d size now) ∷ cs)
   later : (t : Table) (c : Call) (cs : List Call) → Asked p d (after t c) cs → Asked p d t (c ∷ cs)
 
 -- and only by one that was sent [2]: after any calls from a fresh table, a response makes an address verified only where one of them sent its data, on that path
