@@ -289,7 +289,7 @@ pub fn area<const FULL: bool>() -> Area {
     let state = format!(
         "{count} paths of kind 4 on a server, limit 8, factor 3; on path 1 credit 3000, a challenge of 1200 bytes sent and \
          one received. Calls on one path are on path 1, the last pair is looked for, insert_path {inserted}, the response \
-         matches and validates (the unasked one matches nothing, and is looked for before the Rust is called), the timeout \
+         matches and validates (the unasked one matches nothing: the Rust is asked only after a look for the match), the timeout \
          finds the challenge due. The Rust's fresh and insert_path make the path too; \
          what its round-trip time does with a span is left out but for a push to a Vec in on_path_resp_received. {ours} \
          bytes of state, the Rust's own {rust} and what they point to"
