@@ -403,6 +403,9 @@ mod tests {
             p.sent_chals = vec![SentChallenge { data: *b"abcdefgh", size: 1199, sent: at(7), deadline: at(25_007) }];
         });
         assert_eq!(paths.min_path_chal_timer(), Ok(Some(at(25_007))));
+        let unasked = paths.on_path_resp_received(1, *b"abcdefgi", at(8)).unwrap();
+        assert_eq!(unasked, Response { validated: false, spans: vec![] });
+        step(&paths, |_| ());
         paths.on_path_chal_timeout(at(25_007)).unwrap();
         step(&paths, |p| {
             p.need_send_challenge = true;

@@ -146,7 +146,10 @@ static void paths(void) {
     CHECK(p.lost_chal == 1 && p.need_send_challenge && p.sent_chals.count == 0);
     CHECK(vig_paths_pop_recv_chal(&t, 1).number == 0xa1a2a3a4a5a6a7a8);
     CHECK(vig_paths_on_path_chal_sent(&t, 1, 17, 1200, at(26000)).refusal == VIG_ACCEPTED);
-    vig_responded_answer answer = vig_paths_on_path_resp_received(&t, 1, 17, at(35000));
+    const vig_paths asked = t;
+    vig_responded_answer answer = vig_paths_on_path_resp_received(&t, 1, 16, at(34000));
+    CHECK(answer.refusal == VIG_ACCEPTED && !answer.yes && answer.spans.count == 0 && memcmp(&t, &asked, sizeof t) == 0);
+    answer = vig_paths_on_path_resp_received(&t, 1, 17, at(35000));
     CHECK(answer.refusal == VIG_ACCEPTED && answer.yes && answer.spans.count == 1 && answer.spans.items[0].us == 9000);
     CHECK(vig_paths_set_active(&t, 0, false).refusal == VIG_ACCEPTED && vig_paths_set_active(&t, 1, true).refusal == VIG_ACCEPTED);
     CHECK(vig_paths_mark_ping(&t, false, nowhere).refusal == VIG_ACCEPTED);
