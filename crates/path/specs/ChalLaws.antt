@@ -2,7 +2,7 @@
 use Prim.Native.Nat.{ℕ, _-_, max}
 use mathlib.Core.Path.{_≡_, refl, sym, ap, ap₂, _∙_}
 use mathlib.Core.List.{List, [], _∷_, _++_, map}
-use mathlib.Core.Bool.{Bool, true, false, cond, not, _&&_, _||_, and-false}
+use mathlib.Core.Bool.{Bool, true, false, cond, not, _&&_, _||_}
 use native.Mathlib.Omega.{arith}
 use lib.Dec.{eqb, leb}
 use borrow.Author.Tests.{eq-eqb, ne-eqb, not-true, not-false}
@@ -24,6 +24,7 @@ use Rattle.paths_state.specs.declared.state.Path as S
 use Rattle.paths_rules.specs.State.{Path, Challenge}
 use Rattle.paths_rules.specs.With.{withAsk, withSent, withActive}
 use Rattle.paths_rules.specs.Path.{pop, receive, roomed, due, lastSize, matching, unmatched, carries, matches, heeds, spans, largestAfter, validates, matched, respond, reached, promote, rankValidated, rankValidatingMTU}
+use Rattle.paths_rules.specs.Steps.{heeds-is, deaf}
 use Rattle.path.specs.Reading.{chalView, chalOf, pathView, pathOf}
 use Rattle.path.specs.ReadingLaws.{chals-is}
 use Rattle.path.specs.FieldLaws.{back}
@@ -145,13 +146,11 @@ module _ (x : S.Path) (d : ℕ) where
           ∙ sym (ap not (any-view d (standing (x .«sent_chals»))))
 
       pub found-heeded : eqb (x .state) rankValidated ≡ false → (r .spans .count ≡ 0 → ⊥) → heeds d (pathView x) ≡ true
-      found-heeded t k = ap₂ (λ (a b : Bool). not a && b) t (not-false (matches d (pathView x)) (sym found ∙ ne-eqb (r .spans .count) 0 k))
+      found-heeded t k = heeds-is d (pathView x) t ∙ not-false (matches d (pathView x)) (sym found ∙ ne-eqb (r .spans .count) 0 k)
 
       module _ (k : r .spans .count ≡ 0) where
         pub found-deaf : (ok : Bool) → Deaf x d ok
-        found-deaf ok i =
-            ap (λ (b : Bool). not (eqb (x .state) rankValidated) && b) (not-true (matches d (pathView x)) (sym found ∙ eq-eqb (r .spans .count) 0 k))
-            ∙ and-false (not (eqb (x .state) rankValidated))
+        found-deaf ok i = deaf d (pathView x) (not-true (matches d (pathView x)) (sym found ∙ eq-eqb (r .spans .count) 0 k))
 
         pub found-none : r .spans ≡ spansOf []
         found-none = ap (λ (m : Matches). m .spans) e ∙ ap spansOf (none (C.spans d now (standing (x .«sent_chals»))) (sym (ap (λ (m : Matches). m .spans .count) e) ∙ k))

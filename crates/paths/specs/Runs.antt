@@ -502,7 +502,7 @@ OnlyVerified = (p : ℕ) (s : Paths) (c : CodeCall) → (c ≡ MarkVerified p �
     → ((token : ℕ) (now : Moment) → c ≡ OnPathRespReceived p token now → eqb (item p s .state) rankValidated ≡ false → sentOn p token s ≡ true → ⊥)
     → item p s .«verified_peer_address» ≡ false → item p (made s c) .«verified_peer_address» ≡ false
 
--- a response that matches no challenge in p's sent list answers no, without a span, and leaves the whole state, byte for byte [2]
+-- a response that matches no challenge in p's sent list answers no, without a span, and leaves every field of the state [2]
 abbrev pub Unasked : Type 0
 Unasked = (p token : ℕ) (now : Moment) (s : Paths) → sentOn p token s ≡ false
     → result s (OnPathRespReceived p token now) ≡ Response (respondedAt (cond (wellFormed s && momentFormed (now .us)) 0 1) false [] s)

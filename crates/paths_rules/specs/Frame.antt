@@ -2,7 +2,7 @@
 use Prim.Native.Nat.{ℕ, _+_}
 use mathlib.Core.Path.{_≡_, refl, ap, ap₂, _∙_}
 use mathlib.Core.List.{List, [], _∷_}
-use mathlib.Core.Bool.{Bool, true, false, cond, not, _&&_, and-false}
+use mathlib.Core.Bool.{Bool, true, false, cond, not, _&&_}
 use mathlib.Core.Option.{Option, none, some}
 use native.Mathlib.Omega.{arith}
 use lib.Dec.{leb, ltb}
@@ -21,7 +21,7 @@ use Rattle.paths_rules.specs.Table.{Table, Out, Inserted, Responded, ref
 use Rattle.paths_rules.specs.Well.{well}
 use Rattle.paths_rules.specs.Calls.{Act, Initiate, Pop, Receive, Send, Respond, Credit, Charge, SetScid, SetDcid, SetActive, Verify, Look, Call, On, Insert}
 use Rattle.paths_rules.specs.Calls.{Timeout, Ping, Multipath, Ask, isMoment, callFormed, step, effect, refusal}
-use Rattle.paths_rules.specs.Steps.{both, decided, one-holds, act-holds, insert-holds, call-holds}
+use Rattle.paths_rules.specs.Steps.{both, decided, deaf, act-keeps, one-holds, act-holds, insert-holds, call-holds}
 use Rattle.paths_rules.specs.Promise.{names, Frame, InsertionFrame, InsertionUnlists, OnlyVerified, Unasked, OnlyCredit}
 
 -- ---- every field
@@ -99,35 +99,26 @@ only-verified p t c mark response h =
     call-holds unverified p t h (λ a x k. k) (λ x k. k) c
     (λ now e. timeout-holds unverified (λ v x k. k) (λ x k. k) (λ n x k. k) (λ x k. k) now) act (λ a m i e. refl)
   where
+    x : Path
+    x = pathAt p t
+
     act : (a : Act) → refusal t p a ≡ 0 → c ≡ On p a → unverified (effect t a (pathAt p t))
-    act Initiate z e = h
-    act Pop z e = h
-    act (Receive d) z e = h
-    act (Send d size now) z e = h
-    act (Respond d now) z e =
-        decided unverified (heeds d (pathAt p t))
-        (λ v. let w = and-both (not (validated (pathAt p t))) _ v in absurd (response d now e (not-true (validated (pathAt p t)) (w .0)) (w .1))) (λ v. h)
-    act (Credit n) z e = both unverified (t .server) (both unverified (pathAt p t .verified) h h) h
-    act (Charge n) z e = both unverified (t .server) (both unverified (pathAt p t .verified) h h) h
-    act (SetScid o) z e = h
-    act (SetDcid o) z e = h
-    act (SetActive b) z e = h
-    act Verify z e = absurd (mark e)
-    act (Look r) z e = h
+    act a z e =
+        act-keeps (λ rank sent lost largest verified. verified ≡ false) t x h a (λ d size now i. h)
+        (λ d now i. decided unverified (heeds d x)
+        (λ v. let w = and-both (not (validated x)) _ v in absurd (response d now (e ∙ ap (On p) i) (not-true (validated x) (w .0)) (w .1))) (λ v. h))
+        (λ i. absurd (mark (e ∙ ap (On p) i)))
 
 -- ---- a response that matches nothing
 
 pub unheeded : (p d now : ℕ) (t : Table) → matches d (pathAt p t) ≡ false → step t (On p (Respond d now)) ≡ accepted (Responded false []) t
 unheeded p d now t e =
     ap (λ (b : Bool). accepted (cond (known p t) (Responded (b && leb minClientInitialLen (largestAfter d x)) (cond b (spans d now x) [])) (Responded false []))
-    (onPath p (λ (y : Path). cond b (settle (t .multipath) (reached d x)) x) t)) deaf
+    (onPath p (λ (y : Path). cond b (settle (t .multipath) (reached d x)) x) t)) (deaf d x e)
     ∙ ap₂ accepted (none-said (known p t)) (ap (λ (l : List Path). withPaths l t) (set-getD (t .paths) p zeroPath))
   where
     x : Path
     x = pathAt p t
-
-    deaf : heeds d x ≡ false
-    deaf = ap (λ (b : Bool). not (validated x) && b) e ∙ and-false (not (validated x))
 
     -- the same answer of the path that is known, and of none
     none-said : (k : Bool) → cond k (Responded false []) (Responded false []) ≡ Responded false []

@@ -15,9 +15,9 @@ use Rattle.paths_rules.specs.State.{Path, Challenge}
 use Rattle.paths_rules.specs.With.{withAsk, withLost}
 use Rattle.paths_rules.specs.Path.{newPath, zeroPath, carries, matches, unmatched, heeds, validated, largestAfter, expire, probing, timeout, challenge}
 use Rattle.paths_rules.specs.Table.{Table, Out, Nothing, Inserted, refused, accepted, pathAt, known, fresh, freshFormed, zeroTable}
-use Rattle.paths_rules.specs.Calls.{Act, Initiate, Pop, Receive, Send, Respond, Credit, Charge, SetScid, SetDcid, SetActive, Verify, Look, Call, On, Insert, Timeout}
+use Rattle.paths_rules.specs.Calls.{Act, Send, Respond, Credit, Call, On, Insert, Timeout}
 use Rattle.paths_rules.specs.Calls.{callFormed, step, apply, after, run, effect, refusal, answer}
-use Rattle.paths_rules.specs.Steps.{both, decided, never, or-neither, apply-is, act-is, path-is, act-holds, call-holds}
+use Rattle.paths_rules.specs.Steps.{both, decided, never, or-neither, heeds-is, act-keeps, apply-is, act-is, path-is, act-holds, call-holds}
 use Rattle.paths_rules.specs.Frame.{timeout-holds}
 use Rattle.paths_rules.specs.Kept.{run-well, keeps-well}
 use Rattle.paths_rules.specs.Proof.{after-new}
@@ -113,19 +113,13 @@ module _ (p d : ℕ) where
         call-holds Verified p t h (λ a x k. k) (λ x k. k) c
         (λ now e. timeout-holds Verified (λ v x k. k) (λ x k. k) (λ n x k. k) (λ x k. k) now) act (λ a m i e. absurd (remains a m i e))
       where
+        x : Path
+        x = pathAt p t
+
         act : (a : Act) → refusal t p a ≡ 0 → c ≡ On p a → Verified (effect t a (pathAt p t))
-        act Initiate z e = h
-        act Pop z e = h
-        act (Receive d) z e = h
-        act (Send d size now) z e = h
-        act (Respond d now) z e = both Verified (heeds d (pathAt p t)) (both Verified (leb minClientInitialLen (largestAfter d (pathAt p t))) refl refl) h
-        act (Credit n) z e = both Verified (t .server) (both Verified (pathAt p t .verified) h h) h
-        act (Charge n) z e = both Verified (t .server) (both Verified (pathAt p t .verified) h h) h
-        act (SetScid o) z e = h
-        act (SetDcid o) z e = h
-        act (SetActive b) z e = h
-        act Verify z e = refl
-        act (Look r) z e = h
+        act a z e =
+            act-keeps (λ rank sent lost largest verified. verified ≡ true) t x h a (λ b size now i. h)
+            (λ b now i. both Verified (heeds b x) (both Verified (leb minClientInitialLen (largestAfter b x)) refl refl) h) (λ i. refl)
 
     -- by no call but a timeout is a challenge given up before the address is verified
     stays-standing : isTimeout c ≡ false → Held (pathAt p t) → Held (pathAt p (after t c))
@@ -135,23 +129,14 @@ module _ (p d : ℕ) where
         x : Path
         x = pathAt p t
 
+        one-more : (b size now : ℕ) (v : Bool) → (v || stands (x .sent)) ≡ true → (v || stands (x .sent ++ (challenge b size now (x .lost) ∷ []))) ≡ true
+        one-more b size now true k = refl
+        one-more b size now false k = more (x .sent) (challenge b size now (x .lost)) k
+
         act : (a : Act) → refusal t p a ≡ 0 → c ≡ On p a → Held (effect t a (pathAt p t))
-        act Initiate z e = h
-        act Pop z e = h
-        act (Receive d) z e = h
-        act (Send e size now) z i = test (x .verified) h
-          where
-            test : (v : Bool) → (v || stands (x .sent)) ≡ true → (v || stands (x .sent ++ (challenge e size now (x .lost) ∷ []))) ≡ true
-            test true k = refl
-            test false k = more (x .sent) (challenge e size now (x .lost)) k
-        act (Respond d now) z e = both Held (heeds d x) (both Held (leb minClientInitialLen (largestAfter d x)) refl refl) h
-        act (Credit n) z e = both Held (t .server) (both Held (x .verified) h h) h
-        act (Charge n) z e = both Held (t .server) (both Held (x .verified) h h) h
-        act (SetScid o) z e = h
-        act (SetDcid o) z e = h
-        act (SetActive b) z e = h
-        act Verify z e = refl
-        act (Look r) z e = h
+        act a z e =
+            act-keeps (λ rank sent lost largest verified. (verified || stands sent) ≡ true) t x h a (λ b size now i. one-more b size now (x .verified) h)
+            (λ b now i. both Held (heeds b x) (both Held (leb minClientInitialLen (largestAfter b x)) refl refl) h) (λ i. refl)
 
     stays-held : (isTimeout c && matches d (pathAt p t) && not (matches d (pathAt p (after t c)))) ≡ false → Held (pathAt p t) → Held (pathAt p (after t c))
     stays-held e h = test (isTimeout c) (pathAt p t .verified) refl refl e h
@@ -209,20 +194,11 @@ module _ (p d : ℕ) where
             ∙ ap (λ (b : Call). step t b .refusal) i ∙ ap (λ (o : Out). o .refusal) (act-is t p a z)
 
         act : (well t && callFormed c) ≡ true → (a : Act) → refusal t p a ≡ 0 → c ≡ On p a → P (effect t a (pathAt p t))
-        act w Initiate z i = h
-        act w Pop z i = h
-        act w (Receive d) z i = h
-        act w (Send b size now) z i = λ k.
-            stood-before (x .sent) (challenge b size now (x .lost)) k h
-            (λ m. sends size now (i ∙ ap (λ (n : ℕ). On p (Send n size now)) (eqb-true b d m)) (accepted-is w (Send b size now) z i))
-        act w (Respond b now) z i = both P (heeds b x) (both P (leb minClientInitialLen (largestAfter b x)) (λ k. never (sym k)) (λ k. h (stood-kept b (x .sent) k))) h
-        act w (Credit n) z i = both P (t .server) (both P (x .verified) h h) h
-        act w (Charge n) z i = both P (t .server) (both P (x .verified) h h) h
-        act w (SetScid o) z i = h
-        act w (SetDcid o) z i = h
-        act w (SetActive b) z i = h
-        act w Verify z i = h
-        act w (Look r) z i = h
+        act w a z i =
+            act-keeps (λ rank sent lost largest verified. stands sent ≡ true → C) t x h a
+            (λ b size now j k. stood-before (x .sent) (challenge b size now (x .lost)) k h
+            (λ m. sends size now (i ∙ ap (On p) j ∙ ap (λ (n : ℕ). On p (Send n size now)) (eqb-true b d m)) (accepted-is w a z i)))
+            (λ b now j. both P (heeds b x) (both P (leb minClientInitialLen (largestAfter b x)) (λ k. never (sym k)) (λ k. h (stood-kept b (x .sent) k))) h) (λ j. h)
 
         test : (b : Bool) → (well t && callFormed c) ≡ b → C
         test true w = call-holds P p t h (λ a x k. k) (λ x k. k) c (λ now i y k. timed now y k) (act w) (λ a m i n k. never (sym k)) e
@@ -278,7 +254,7 @@ previous t s w r cs remains f formed e = λ i j.
         ∙ path-is u (f .path) (Respond (f .«data») (f .now)) (is-known (λ (y : Path). y .verified || matches (f .«data») y) refl (u .paths) (f .path) h) refl))
         (decided (λ (y : Path). y .verified ≡ true) (heeds (f .«data») x)
         (λ q. both (λ (y : Path). y .verified ≡ true) (leb minClientInitialLen (largestAfter (f .«data») x)) refl refl)
-        (λ q. sym (or-false (x .verified)) ∙ ap (λ (b : Bool). x .verified || b) (sym (sym (ap (λ (b : Bool). not b && matches (f .«data») x) v) ∙ q)) ∙ h))
+        (λ q. sym (or-false (x .verified)) ∙ ap (λ (b : Bool). x .verified || b) (sym (sym (heeds-is (f .«data») x v) ∙ q)) ∙ h))
       where
         x : Path
         x = pathAt (f .path) u

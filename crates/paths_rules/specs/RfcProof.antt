@@ -17,9 +17,9 @@ use Rattle.paths_rules.specs.Path.{zeroPath, expire, probing, timeout, c
 use Rattle.paths_rules.specs.With.{withActive, withSent, withAsk, withLost}
 use Rattle.paths_rules.specs.Path.{promote, rankFailed, rankValidating, rankValidatingMTU, rankValidated, due}
 use Rattle.paths_rules.specs.Table.{Table, Out, Answer, Nothing, Inserted, Number, Flag, Maybe, refused, accepted, pathAt, known, onPath, insert, fresh, freshFormed, zeroTable, timer as timerOf}
-use Rattle.paths_rules.specs.Calls.{Act, Initiate, Pop, Receive, Send, Respond, Credit, Charge, SetScid, SetDcid, SetActive, Verify, Look, NeedsFrames}
+use Rattle.paths_rules.specs.Calls.{Act, Pop, Receive, Send, Respond, Credit, Look, NeedsFrames}
 use Rattle.paths_rules.specs.Calls.{NeedsPadding, Call, On, isMoment, step, apply, after, run, effect, refusal, answer}
-use Rattle.paths_rules.specs.Steps.{both, decided, never, or-neither, apply-is, act-is, path-is, act-holds, insert-holds, call-holds}
+use Rattle.paths_rules.specs.Steps.{both, decided, never, or-neither, heeds-is, act-keeps, apply-is, act-is, path-is, act-holds, insert-holds, call-holds}
 use Rattle.paths_rules.specs.Frame.{only-verified, expire-holds, timeout-holds}
 use Rattle.paths_rules.specs.Previous.{is-known, sent-accepted, previous, only-previous}
 use Rattle.paths_rules.specs.Well.{well}
@@ -127,7 +127,7 @@ responded : (P : Path → Type 0) (d : ℕ) (multi : Bool) (x : Path) → valida
 responded P d multi x v h k n =
     decided P (heeds d x)
     (λ e. decided P (leb minClientInitialLen (largestAfter d x)) (λ q. h (leb-true minClientInitialLen (largestAfter d x) q)) (λ q. k (leb-false minClientInitialLen (largestAfter d x) q)))
-    (λ e. n (sym (ap (λ (b : Bool). not b && matches d x) v) ∙ e))
+    (λ e. n (sym (heeds-is d x v) ∙ e))
 
 probes-again : Met response ProbesAgain
 probes-again = met response ProbesAgain (λ t f k v m.
@@ -151,19 +151,13 @@ only-by-response : Met itself OnlyByResponse
 only-by-response t c h f p response v =
     call-holds Open p t v (λ a x k. k) (λ x k. k) c (λ now e. open-timeout now) act (λ a m i e. refl)
   where
+    x : Path
+    x = pathAt p t
+
     act : (a : Act) → refusal t p a ≡ 0 → c ≡ On p a → Open (effect t a (pathAt p t))
-    act Initiate z e = v
-    act Pop z e = v
-    act (Receive d) z e = v
-    act (Send d size now) z e = not-raised (pathAt p t .rank) rankValidating (omega arith) v
-    act (Respond d now) z e = absurd (response d now e)
-    act (Credit n) z e = both Open (t .server) (both Open (pathAt p t .verified) v v) v
-    act (Charge n) z e = both Open (t .server) (both Open (pathAt p t .verified) v v) v
-    act (SetScid o) z e = v
-    act (SetDcid o) z e = v
-    act (SetActive b) z e = v
-    act Verify z e = v
-    act (Look r) z e = v
+    act a z e =
+        act-keeps (λ rank sent lost largest verified. eqb rank rankValidated ≡ false) t x v a (λ d size now i. not-raised (x .rank) rankValidating (omega arith) v)
+        (λ d now i. absurd (response d now (e ∙ ap (On p) i))) (λ i. v)
 
 -- the last match was sent in a datagram of 1200 bytes or more: then one such match stands
 last-expanded : (d z : ℕ) (l : List Challenge) → z < smallestSize → smallestSize ≤ lastSize z (matching d l)
@@ -214,22 +208,14 @@ forgets-call p t c k = call-holds Forgets p t k (λ a x h. h) (λ x h. h) c (λ 
     x = pathAt p t
 
     act : (a : Act) → refusal t p a ≡ 0 → c ≡ On p a → Forgets (effect t a (pathAt p t))
-    act Initiate z e = k
-    act Pop z e = k
-    act (Receive d) z e = k
-    act (Send d size now) z e = (omega (arith, k .0), λ r. k .1 (omega arith))
-    act (Respond d now) z e =
-        both Forgets (heeds d x)
+    act a z e =
+        act-keeps (λ rank sent lost largest verified. (rank ≤ rankValidated) × (rank < rankValidated → largest < smallestSize)) t x k a
+        (λ d size now i. (omega (arith, k .0), λ r. k .1 (omega arith)))
+        (λ d now i. both Forgets (heeds d x)
         (decided Forgets (leb minClientInitialLen (largestAfter d x))
         (λ q. (omega (arith, k .0), λ r. absurd (omega arith)))
-        (λ q. (omega (arith, k .0), λ r. leb-false minClientInitialLen (largestAfter d x) q))) k
-    act (Credit n) z e = both Forgets (t .server) (both Forgets (pathAt p t .verified) k k) k
-    act (Charge n) z e = both Forgets (t .server) (both Forgets (pathAt p t .verified) k k) k
-    act (SetScid o) z e = k
-    act (SetDcid o) z e = k
-    act (SetActive b) z e = k
-    act Verify z e = k
-    act (Look r) z e = k
+        (λ q. (omega (arith, k .0), λ r. leb-false minClientInitialLen (largestAfter d x) q))) k)
+        (λ i. k)
 
 forgets-run : (p : ℕ) (cs : List Call) (t : Table) → Forgets (pathAt p t) → Forgets (pathAt p (run t cs))
 forgets-run p [] t k = k
@@ -371,21 +357,12 @@ only-timeout-fails t c h f p other g =
     x = pathAt p t
 
     act : (a : Act) → refusal t p a ≡ 0 → c ≡ On p a → Going (effect t a (pathAt p t))
-    act Initiate z e = g
-    act Pop z e = g
-    act (Receive d) z e = g
-    act (Send d size now) z e = still-going (x .rank) rankValidating g
-    act (Respond d now) z e =
-        both Going (heeds d x)
+    act a z e =
+        act-keeps (λ rank sent lost largest verified. eqb rank rankFailed ≡ false) t x g a (λ d size now i. still-going (x .rank) rankValidating g)
+        (λ d now i. both Going (heeds d x)
         (both Going (leb minClientInitialLen (largestAfter d x))
-        (still-going (max (x .rank) rankValidatingMTU) rankValidated (still-going (x .rank) rankValidatingMTU g)) (still-going (x .rank) rankValidatingMTU g)) g
-    act (Credit n) z e = both Going (t .server) (both Going (pathAt p t .verified) g g) g
-    act (Charge n) z e = both Going (t .server) (both Going (pathAt p t .verified) g g) g
-    act (SetScid o) z e = g
-    act (SetDcid o) z e = g
-    act (SetActive b) z e = g
-    act Verify z e = g
-    act (Look r) z e = g
+        (still-going (max (x .rank) rankValidatingMTU) rankValidated (still-going (x .rank) rankValidatingMTU g)) (still-going (x .rank) rankValidatingMTU g)) g)
+        (λ i. g)
 
 -- the path p after a timeout
 timed-is : (now : ℕ) (l : List Path) (p : ℕ) → getD (map (timeout now) l) p zeroPath ≡ timeout now (getD l p zeroPath)

@@ -2,7 +2,7 @@
 use Prim.Native.Nat.{ℕ, zero, suc, _≤_}
 use mathlib.Core.Path.{_≡_, refl, sym, ap, ap₂, _∙_}
 use mathlib.Core.List.{List, [], _∷_, _++_, map}
-use mathlib.Core.Bool.{Bool, true, false, cond, _&&_, _||_}
+use mathlib.Core.Bool.{Bool, true, false, cond, not, _&&_, _||_, and-false}
 use mathlib.Core.Option.{Option, none, some}
 use native.Mathlib.Omega.{arith}
 use lib.ListN.{length, getD, set, length-set, length-map, length-append}
@@ -11,13 +11,13 @@ use lib.Seq.{getD-set-same}
 use borrow.Author.Tests.{eqb-true, eq-eqb, ltb-true}
 use Rattle.lists.specs.Defs.{firstWith}
 use Rattle.values.specs.declared.address.FourTuple.{FourTuple}
-use Rattle.paths_rules.specs.State.{Path}
-use Rattle.paths_rules.specs.With.{withPing}
-use Rattle.paths_rules.specs.Path.{zeroPath, newPath, timeout, unlist, inUse, unused, flagged, listedAs}
+use Rattle.paths_rules.specs.State.{Path, Challenge}
+use Rattle.paths_rules.specs.With.{withPing, withVerified}
+use Rattle.paths_rules.specs.Path.{zeroPath, newPath, timeout, send, respond, validated, matches, heeds, unlist, inUse, unused, flagged, listedAs}
 use Rattle.paths_rules.specs.Table.{Table, Out, Inserted, refused, accepted, pathAt, known, withPaths, onPath, onAll, appended, replaced, evict, insert, pingAt}
 use Rattle.paths_rules.specs.Table.{pingInUse, pingOn, multipathOn}
 use Rattle.paths_rules.specs.Well.{well}
-use Rattle.paths_rules.specs.Calls.{Act, Call, On, Insert, Timeout, Ping, Multipath, Ask, Survey, Len, IdOf, GetActive, Timer, survey, activeOut, callFormed}
+use Rattle.paths_rules.specs.Calls.{Act, Initiate, Pop, Receive, Send, Respond, Credit, Charge, SetScid, SetDcid, SetActive, Verify, Look, Call, On, Insert, Timeout, Ping, Multipath, Ask, Survey, Len, IdOf, GetActive, Timer, survey, activeOut, callFormed}
 use Rattle.paths_rules.specs.Calls.{step, apply, after, effect, refusal, answer}
 
 -- a fact of both results of a test is a fact of the result
@@ -61,6 +61,37 @@ pub path-is : (t : Table) (p : ℕ) (a : Act) → known p t ≡ true → refusal
 path-is t p a k e =
     ap (λ (o : Out). pathAt p (o .table)) (act-is t p a e)
     ∙ getD-set-same (t .paths) p (effect t a (pathAt p t)) zeroPath (ltb-true p (length (t .paths)) k)
+
+-- ---- a response
+
+-- on a path not Validated it is heeded if it matches; without a match on none
+pub heeds-is : (d : ℕ) (x : Path) → validated x ≡ false → heeds d x ≡ matches d x
+heeds-is d x v = ap (λ (b : Bool). not b && matches d x) v
+
+pub deaf : (d : ℕ) (x : Path) → matches d x ≡ false → heeds d x ≡ false
+deaf d x e = ap (λ (b : Bool). not (validated x) && b) e ∙ and-false (not (validated x))
+
+-- ---- a fact that looks at no more of a path than rank, sent challenges, lost count, largest size and the mark: a call on the path keeps it, if a challenge
+-- sent, a response and the mark do
+
+module _ (Q : (rank : ℕ) (sent : List Challenge) (lost largest : ℕ) (verified : Bool) → Type 0) where
+  abbrev pub Of : Path → Type 0
+  Of x = Q (x .rank) (x .sent) (x .lost) (x .largest) (x .verified)
+
+  pub act-keeps : (t : Table) (x : Path) → Of x → (a : Act) → ((d size now : ℕ) → a ≡ Send d size now → Of (send d size now x))
+      → ((d now : ℕ) → a ≡ Respond d now → Of (respond d (t .multipath) x)) → (a ≡ Verify → Of (withVerified true x)) → Of (effect t a x)
+  act-keeps t x h Initiate s r v = h
+  act-keeps t x h Pop s r v = h
+  act-keeps t x h (Receive d) s r v = h
+  act-keeps t x h (Send d size now) s r v = s d size now refl
+  act-keeps t x h (Respond d now) s r v = r d now refl
+  act-keeps t x h (Credit n) s r v = both Of (t .server) (both Of (x .verified) h h) h
+  act-keeps t x h (Charge n) s r v = both Of (t .server) (both Of (x .verified) h h) h
+  act-keeps t x h (SetScid o) s r v = h
+  act-keeps t x h (SetDcid o) s r v = h
+  act-keeps t x h (SetActive b) s r v = h
+  act-keeps t x h Verify s r v = v refl
+  act-keeps t x h (Look k) s r v = h
 
 -- ---- lists
 
