@@ -9,19 +9,9 @@ fn item(x: Item, y: Item) -> bool {
     let b = y.cid;
     let c = x.token;
     let d = y.token;
-    let ab = a.bytes;
-    let bb = b.bytes;
-    let cb = c.bytes;
-    let db = d.bytes;
-    let i = values::same20(ab, bb);
-    let k = values::same16(cb, db);
-    (x.seq == y.seq)
-        & (x.path == y.path)
-        & (a.len == b.len)
-        & i
-        & k
-        & (c.present == d.present)
-        & (x.has_path == y.has_path)
+    let i = values::cid_eq(a, b);
+    let k = values::token_matches(c, d);
+    (x.seq == y.seq) & (x.path == y.path) & i & k & (x.has_path == y.has_path)
 }
 
 fn table(a: Table, b: Table) -> bool {

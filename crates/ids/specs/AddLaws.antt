@@ -2,7 +2,7 @@
 use Prim.Native.Nat.{ℕ, suc, _+_, _*_, _≤_, _<_}
 use mathlib.Core.Path.{_≡_, refl, sym, ap, ap₂, _∙_}
 use mathlib.Core.List.{List, [], _∷_, _++_, map}
-use mathlib.Core.Bool.{Bool, true, false, not, cond, _&&_}
+use mathlib.Core.Bool.{Bool, true, false, not, cond, _&&_, Bool·beq}
 use mathlib.Core.Option.{some}
 use native.Mathlib.Omega.{arith}
 use lib.Dec.{eqb}
@@ -143,7 +143,7 @@ module _ (s : Ids) (w : wellFormed s ≡ true) (x : I.Item) (f : F.itemFormed x 
 same-tokens : (a b : Token) → sameToken (tokenView a) (tokenView b) ≡ T.sharedToken a b
 same-tokens a b = go (a .present) (b .present)
   where
-    go : (p q : Bool) → sameToken (given p (a .bytes)) (given q (b .bytes)) ≡ ((p && q) && same (a .bytes) (b .bytes))
+    go : (p q : Bool) → sameToken (given p (a .bytes)) (given q (b .bytes)) ≡ (p && (Bool·beq p q && same (a .bytes) (b .bytes)))
     go true true = refl
     go true false = refl
     go false q = refl

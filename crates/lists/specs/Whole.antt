@@ -1,15 +1,15 @@
 -- Loops over a whole array of numbers: what each turn keeps, and what it comes to at the end. They are stated over the length, so that a loop over 16
 -- numbers and one over 20 have one law.
 use Prim.Native.Nat.{ℕ, _+_, _≤_, _<_}
-use mathlib.Core.Path.{_≡_, sym, ap₂, _∙_}
+use mathlib.Core.Path.{_≡_, sym, ap, ap₂, _∙_}
 use mathlib.Core.List.{List}
 use mathlib.Core.Bool.{Bool, _&&_}
 use native.Mathlib.Omega.{arith}
 use lib.ListN.{length, drop, set, getD, length-set}
-use lib.Bits.{bitOr}
+use lib.Bits.{bitOr, bitXor}
 use lib.Dec.{eqb}
 use Rattle.lists.specs.Defs.{all, past, nought, same}
-use Rattle.lists.specs.Tests.{all-done, past-all, zeros-more, merge-more, same-more, same-done}
+use Rattle.lists.specs.Tests.{zero-or, zero-xor, all-done, past-all, zeros-more, merge-more, same-more, same-done}
 
 -- ---- the numbers from place k on are gathered by or: acc has those before i
 
@@ -36,6 +36,12 @@ module _ (a b : List ℕ) where
 
     pub compared-done : n ≤ i → ok ≡ same a b
     compared-done t = sym (h ∙ same-done a b i ok (omega arith) (omega arith))
+
+  -- where a number has the differences, ok is that it is zero: they are collected by exclusive or and or
+  pub collected-more : (n : ℕ) → length a ≡ n → length b ≡ n → (d i : ℕ) → Compared (nought d) i → i < n → Compared (nought (bitOr d (bitXor (getD a i 0) (getD b i 0)))) (i + 1)
+  collected-more n la lb d i h t =
+      let one = zero-or d _ ∙ ap (λ (z : Bool). nought d && z) (zero-xor (getD a i 0) (getD b i 0)) in
+      compared-more n la lb (nought d) i h t ∙ ap (λ (ok : Bool). ok && same (drop (i + 1) a) (drop (i + 1) b)) (sym one)
 
 -- ---- b is merged into a by or: r has both before i
 

@@ -5,11 +5,11 @@ use mathlib.Core.Bool.{Bool, true, false, not, cond, _&&_, _||_}
 use mathlib.Core.Option.{Option, none, some}
 use lib.Dec.{eqb, leb}
 use lib.ListN.{length, take, getD}
-use Rattle.lists.specs.Defs.{padded, same}
+use Rattle.lists.specs.Defs.{padded}
 use Rattle.lists.specs.Held.{Held}
 use Rattle.values.specs.Limits.{tableSlots, queueSlots}
 use Rattle.values.specs.Cid.{zeroId, sameId}
-use Rattle.values.specs.Token.{zeroToken}
+use Rattle.values.specs.Token.{zeroToken, sameToken}
 use Rattle.values.specs.declared.cid.ConnectionId.{ConnectionId}
 use Rattle.values.specs.declared.token.Token.{Token}
 use Rattle.values.specs.declared.used.UsedSeq.{UsedSeq}
@@ -96,7 +96,7 @@ onPath p x = record { seq = x .seq; path = p; cid = x .cid; token = x .token; «
 
 -- both are present, and equal
 abbrev pub sharedToken : Token → Token → Bool
-sharedToken a b = (a .present && b .present) && same (a .bytes) (b .bytes)
+sharedToken a b = a .present && sameToken a b
 
 -- y has the ID or the sequence of x; has both, and its token
 abbrev pub clashing : Item → Item → Bool

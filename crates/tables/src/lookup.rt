@@ -150,7 +150,7 @@ pub fn lowest_free(t: Table) -> Lowest
     }
 }
 
-// 0: neither ID nor sequence is equal; 1: ID, sequence and token are; 2: otherwise.
+// 0: neither ID nor sequence is equal; 1: ID, sequence and token are; 2: otherwise. An absent token is no frame's: it differs from an absent one too.
 fn judge(x: Item, y: Item) -> u8
     ensures { λ r. ⌜ r ≡ judged x y ⌝ }
 {
@@ -158,11 +158,9 @@ fn judge(x: Item, y: Item) -> u8
     let b = x.cid;
     let k = y.token;
     let j = x.token;
-    let u = k.bytes;
-    let v = j.bytes;
     let s = values::cid_eq(a, b);
-    let m = values::same16(u, v);
-    let t = k.present & j.present & m;
+    let m = values::token_matches(k, j);
+    let t = k.present & m;
     let e = y.seq == x.seq;
     if s | e {
         if s & e & t { 1 } else { 2 }
