@@ -9,7 +9,8 @@
  * is out of form is refused with VIG_MALFORMED. Write a state through the calls alone: one of your own making is refused, or is well formed and means what
  * it says.
  *
- * Every answer begins with `refusal`: 0 where the call was accepted. On a refusal every other field is zero, and RULES.md, "Refusals", says what the state is left as.
+ * The answer of a call on a state begins with `refusal`: 0 where the call was accepted. On a refusal every other field is zero, and RULES.md, "Refusals", says
+ * what the state is left as.
  *
  * tools/face writes the structs and prototypes from the library's own definitions, and tests/host holds every offset and every number of an enum to them.
  * The comments are by hand. */
@@ -59,6 +60,10 @@ typedef struct vig_token {
     uint8_t bytes[16];
     bool present;
 } vig_token;
+
+/* Whether presence and bytes are equal: for a token that came in a datagram, against those held (RFC 9000, 10.3.1). All sixteen bytes of both are read, whatever
+ * they are; nothing is claimed about time. Any two values are compared as they stand, and there is no refusal. */
+bool vig_token_matches(vig_token a, vig_token b);
 
 /* kind is 4 or 6. Kind 4 uses the first 4 bytes of ip; the others, flow and scope are then zero. ip is in network order; port, flow and scope are numbers. */
 typedef struct vig_address {

@@ -118,4 +118,5 @@ unsafe extern "C" {
     pub safe fn val_timers_clear(t: TimerTable) -> TimersOut;
 
     pub safe fn val_wire_code(number: u64) -> u64;
+    pub safe fn val_token_matches(a: Token, b: Token) -> bool;
 }

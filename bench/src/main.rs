@@ -10,6 +10,8 @@ extern crate self as libc;
 mod ffi;
 mod by_value;
 mod connection;
+#[path = "../../tests/host/plain.rs"]
+mod plain;
 #[allow(dead_code)]
 #[path = "../../oracle/src/shims.rs"]
 mod shims;

@@ -1,9 +1,9 @@
-//! The plain answers, the forms of the values, and the rows of their call.
+//! The plain answers, the forms of the values, and the rows of their calls.
 
-use crate::by_value::val_wire_code;
+use crate::by_value::{val_token_matches, val_wire_code};
 use crate::error::Error;
 use crate::ffi::*;
-use crate::{Answer, Area, Call, Given};
+use crate::{Answer, Area, Call, Given, Row};
 
 pub const MAX_MOMENT: u64 = (1 << 63) - 1;
 
@@ -23,6 +23,12 @@ answers!(Done, Flagged, Counted, Numbered, Timed);
 
 /// A wire code, which no refusal goes with.
 impl Answer for u64 {
+    fn refusal(&self) -> u8 {
+        0
+    }
+}
+
+impl Answer for bool {
     fn refusal(&self) -> u8 {
         0
     }
@@ -62,6 +68,26 @@ impl Token {
     }
 }
 
+/// Of a token and one that is it but for a byte, or the same.
+fn token_matches(name: &'static str, other: Option<usize>) -> Row {
+    let held = [0xa5; 16];
+    let mut received = held;
+    if let Some(place) = other {
+        received[place] ^= 1;
+    }
+    let call = Call {
+        name,
+        test: |_: &(), _: &[Token; 2]| true,
+        tuned: |_: &(), _: &[Token; 2]| true,
+        lent: |_: &mut (), [a, b]: [Token; 2]| vig_token_matches(a, b),
+        by_value: |_: &(), [a, b]: [Token; 2]| val_token_matches(a, b),
+        rust: |_: &mut (), [a, b]: [Option<u128>; 2]| a == b,
+    };
+    let ours = [held, received].map(|bytes| Token { bytes, present: true });
+    let theirs = [held, received].map(|bytes| Some(u128::from_be_bytes(bytes)));
+    call.row(Given { state: (), arguments: ours }, move || Given { state: (), arguments: theirs }, |_| ())
+}
+
 pub fn area() -> Area {
     let nothing = Call {
         name: "(the loop alone)",
@@ -86,6 +112,9 @@ pub fn area() -> Area {
             || Given { state: [Error::ConnectionIdLimitError], arguments: () },
             |_| (),
         ),
+        token_matches("token_matches, equal", None),
+        token_matches("token_matches, first byte", Some(0)),
+        token_matches("token_matches, last byte", Some(15)),
     ];
     Area { name: "values", state: "no state, so that nothing is tested".into(), rows }
 }

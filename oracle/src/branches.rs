@@ -28,6 +28,10 @@ fn ways(area: Area, name: &str) -> Vec<&'static str> {
     let lists: &[&str] = match (area, name) {
         (Area::Values, "wire_code") => &["number-0 number-1 number-2 number-3 number-4 number-5 number-6 number-7 number-8 other"],
         (Area::Values, "cid_new") => &["empty below-20 exactly-20 cut above-the-area"],
+        (Area::Values, "token_matches") => &[
+            "absent-not-zero-equal absent-not-zero-differs both-absent one-absent equal several-bytes",
+            "byte-0 byte-1 byte-2 byte-3 byte-4 byte-5 byte-6 byte-7 byte-8 byte-9 byte-10 byte-11 byte-12 byte-13 byte-14 byte-15",
+        ],
 
         (Area::Timers, "fresh") => &["accepted"],
         (Area::Timers, "set") => &["timer-above-8 moment-too-far set set-again"],

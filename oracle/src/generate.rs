@@ -187,8 +187,12 @@ impl Generator {
     }
 
     fn values(&mut self) -> Record {
-        let name = self.rng.pick(&["wire_code", "cid_new"]);
+        let name = self.rng.pick(&["wire_code", "cid_new", "token_matches"]);
         let mut record = self.blank(record::number(Area::Values, name));
+        if name == "token_matches" {
+            self.tokens(&mut record);
+            return record;
+        }
         record.n[0] = match self.rng.below(10) {
             0 => self.rng.next(),
             1 => self.rng.pick(&[u64::MAX, 255, 256, 1 << 32, 1 << 63]),
@@ -198,6 +202,29 @@ impl Generator {
         };
         self.rng.fill(&mut record.area);
         record
+    }
+
+    /// Two tokens that differ in one bit, in nothing, in several bytes or in all, of the same presence or not, of any form.
+    fn tokens(&mut self, record: &mut Record) {
+        let mut token = [0; 16];
+        if self.rng.percent(80) {
+            self.rng.fill(&mut token);
+        }
+        record.area[21..37].copy_from_slice(&token);
+        for _ in 0..self.rng.pick(&[0, 0, 1, 1, 1, 1, 2, 5]) {
+            token[self.rng.below(16) as usize] ^= 1 << self.rng.below(8);
+        }
+        if self.rng.percent(10) {
+            self.rng.fill(&mut token);
+        }
+        record.area[37..53].copy_from_slice(&token);
+        record.a = self.rng.percent(70);
+        record.b = record.a ^ self.rng.percent(20);
+        for (present, from) in [(record.a, 21), (record.b, 37)] {
+            if !present && self.rng.percent(60) {
+                record.area[from..from + 16].fill(0);
+            }
+        }
     }
 
     fn timers(&mut self) -> Record {
@@ -225,8 +252,9 @@ impl Generator {
 
     /// Puts one argument out of its form, if the call has one that can be.
     fn damage(&mut self, call: &Call, record: &mut Record) {
-        let breakable =
-            |arg: &&Arg| !matches!(arg, Arg::Number(..) | Arg::FlagC(_) | Arg::FlagD(_) | Arg::Slice(_) | Arg::Token);
+        let breakable = |arg: &&Arg| {
+            !matches!(arg, Arg::Number(..) | Arg::FlagC(_) | Arg::FlagD(_) | Arg::Slice(_) | Arg::Token | Arg::Tokens)
+        };
         let args: Vec<Arg> = call.args.iter().filter(breakable).copied().collect();
         let Some(arg) = self.rng.some(&args) else { return };
         let byte = 1 + self.rng.below(255) as u8;

@@ -50,6 +50,8 @@ pub enum Arg {
     Token,
     /// Present if flag a is set, and zero otherwise.
     MaybeToken,
+    /// Two, present if flags a and b are set; of any form.
+    Tokens,
     Pair,
     /// Present if flag a is set, and zero otherwise.
     MaybePair,
@@ -84,6 +86,7 @@ const ITEM: &str = "inftfn";
 pub const CALLS: &[Call] = &[
     call(0x08, Values, "wire_code", &[Number("number", 0)], "n"),
     call(0x09, Values, "cid_new", &[Slice(0)], "i"),
+    call(0x0a, Values, "token_matches", &[Tokens], "f"),
     call(0x10, Timers, "fresh", &[], ""),
     call(0x11, Timers, "set", &[Timer(0), Moment("moment", 1)], ""),
     call(0x12, Timers, "stop", &[Timer(0)], ""),
@@ -220,6 +223,10 @@ impl Record {
         self.a.then(|| self.token())
     }
 
+    pub fn other_token(&self) -> u128 {
+        u128::from_be_bytes(self.area[37..53].try_into().unwrap())
+    }
+
     /// The number of field `n[i]`, if flag b says that it is present.
     pub fn maybe(&self, i: usize) -> Option<u64> {
         self.b.then_some(self.n[i])
@@ -237,7 +244,7 @@ impl Record {
     fn malformed_argument(&self, arg: &Arg) -> Option<&'static str> {
         let broken = |broken: bool, cause| broken.then_some(cause);
         match *arg {
-            Number(..) | FlagC(_) | FlagD(_) | Slice(_) | Token => None,
+            Number(..) | FlagC(_) | FlagD(_) | Slice(_) | Token | Tokens => None,
             Timer(i) => broken(self.n[i] > 8, "timer-above-8"),
             Moment(_, i) => broken(self.n[i] > MAX_MOMENT, "moment-too-far"),
             DestinationLimit(i) | PathLimit(i) if self.n[i] == 0 => Some("limit-0"),
@@ -277,6 +284,10 @@ impl Record {
                     write!(text, " token={}{}", hex(&self.area[21..37]), absent(self.a))
                 }
                 MaybeToken => write!(text, " token=none"),
+                Tokens => {
+                    let (a, b) = (hex(&self.area[21..37]), hex(&self.area[37..53]));
+                    write!(text, " tokens={a}{},{b}{}", absent(self.a), absent(self.b))
+                }
                 Pair => write!(text, " local={} remote={}", hex(&self.area[..27]), hex(&self.area[27..])),
                 MaybePair => {
                     write!(text, " local={} remote={}{}", hex(&self.area[..27]), hex(&self.area[27..]), absent(self.a))

@@ -79,9 +79,39 @@ impl World {
     }
 }
 
+/// The Rust compares tokens as `Option<u128>`, where an absent one has no bytes. What is absent and not zero is the port's own: its bytes count.
+fn token_matches(call: &Call, record: &Record, tally: &mut Tally) -> Outcome {
+    let (token, other) = (record.token(), record.other_token());
+    let formed = (record.a || token == 0) && (record.b || other == 0);
+    let same = match formed {
+        true => record.a.then_some(token) == record.b.then_some(other),
+        false => (record.a, token) == (record.b, other),
+    };
+    let bytes = (token ^ other).to_be_bytes();
+    let mut differing = (0..16).filter(|&place| bytes[place] != 0);
+    let single;
+    let way = match (formed, record.a, record.b, differing.next(), differing.next()) {
+        (false, ..) if same => "absent-not-zero-equal",
+        (false, ..) => "absent-not-zero-differs",
+        (_, false, false, ..) => "both-absent",
+        (_, a, b, ..) if a != b => "one-absent",
+        (.., None, _) => "equal",
+        (.., Some(place), None) => {
+            single = format!("byte-{place}");
+            &single
+        }
+        _ => "several-bytes",
+    };
+    tally.hit(call.number, way);
+    Outcome::accepted(call, vec![Field::Flag(same)])
+}
+
 fn values(call: &Call, record: &Record, tally: &mut Tally) -> Outcome {
     use crate::error::Error;
     let n = record.n[0];
+    if call.name == "token_matches" {
+        return token_matches(call, record, tally);
+    }
     if call.name == "cid_new" {
         let length = n.min(record::AREA as u64) as usize;
         tally.hit(

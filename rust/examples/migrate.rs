@@ -1,6 +1,6 @@
 //! A server pushes 200 kB to a client over loopback UDP. In mid-push the client goes from its cable to wireless: another socket, another address. The server
 //! asks the core about everything that has to do with addresses and connection IDs: what it may send where, whether the new address is the
-//! client's, when a challenge is lost, which IDs to use and which to retire.
+//! client's, when a challenge is lost, which IDs to use and which to retire, whether a datagram is a stateless reset.
 //!
 //! The packets are not QUIC's: no handshake, no encryption, no packet numbers. A datagram is the destination ID, 8 bytes, and frames. PATH_CHALLENGE,
 //! PATH_RESPONSE, NEW_CONNECTION_ID and RETIRE_CONNECTION_ID have the bytes of RFC 9000 (its varints are one byte below 64).
@@ -13,7 +13,8 @@ use std::hash::{BuildHasher, Hasher};
 use std::net::{SocketAddr, UdpSocket};
 use std::thread;
 use std::time::{Duration, Instant};
-use vignorasc::{Clock, ConnectionId, FourTuple, Ids, NewConnectionIdFrame, Paths, Refusal, ResetToken, Span, Timer, Timers};
+use vignorasc::{token_matches, Clock, ConnectionId, FourTuple, Ids, NewConnectionIdFrame, Paths, Refusal};
+use vignorasc::{ResetToken, Span, Timer, Timers};
 
 /// Both sides give up then.
 const PATIENCE: Duration = Duration::from_secs(20);
@@ -50,6 +51,15 @@ fn main() -> Result<()> {
     assert_eq!(server.ids.scids().map(|item| item.seq).collect::<Vec<_>>(), [1]);
     assert_eq!(server.ids.dcids().map(|item| item.seq).collect::<Vec<_>>(), [1, 2]);
     say(clock, "both", &format!("{} bytes arrived, equal byte for byte; the old IDs are retired", arrived.len()));
+
+    // The client's machine starts again and knows nothing: to whatever comes it answers with noise and a token.
+    let from = server.paths.remote_addr(1)?;
+    let ends_with = |token: ResetToken| server.is_reset(&[&[0x5a; 24][..], &token.0].concat(), from);
+    let (used, spare) = (client_frame(1, 0).token, client_frame(2, 1).token);
+    let mut near = used;
+    near.0[15] ^= 1;
+    assert!(ends_with(used) && !ends_with(spare) && !ends_with(near) && !server.is_reset(&used.0[1..], from));
+    say(clock, "server", "the token of the client's ID 1 would reset the connection; that of its spare ID, or one bit off, not");
     Ok(())
 }
 
@@ -147,9 +157,14 @@ impl Server {
     }
 
     fn datagram(&mut self, bytes: &[u8], from: SocketAddr) -> Result<()> {
-        let Some((to, frames)) = parse(bytes) else { return Ok(()) };
-        // Not for an ID that we gave out: not of this connection, and no credit.
-        let Some((scid_seq, _)) = self.ids.find_scid(to)? else { return Ok(()) };
+        let known = match parse(bytes) {
+            Some((to, frames)) => self.ids.find_scid(to)?.map(|(seq, _)| (seq, to, frames)),
+            None => None,
+        };
+        let Some((scid_seq, to, frames)) = known else {
+            // Not for an ID that we gave out: not of this connection, and no credit, unless it ends the connection.
+            return if self.is_reset(bytes, from) { Err("the client has reset the connection".into()) } else { Ok(()) };
+        };
         let pair = FourTuple { local: self.socket.local_addr()?, remote: from };
         let id = match self.paths.get_path_id(pair)? {
             Some(id) => id,
@@ -163,6 +178,14 @@ impl Server {
             self.frame(id, to, frame)?;
         }
         Ok(())
+    }
+
+    /// Whether the datagram ends with the token of a client's ID that is in use toward that address (RFC 9000, 10.3.1). Who could guess a token byte by byte
+    /// could end any connection.
+    fn is_reset(&self, bytes: &[u8], from: SocketAddr) -> bool {
+        let Some(last) = bytes.last_chunk() else { return false };
+        let toward = |id| self.paths.remote_addr(id).is_ok_and(|remote| remote == from);
+        self.ids.dcids().any(|item| item.path.is_some_and(toward) && token_matches(ResetToken(*last), item.token))
     }
 
     /// A known ID from an unknown address: perhaps the client moved, perhaps somebody replays its packets. The new path gets IDs of its own (RFC 9000, 9.5) and

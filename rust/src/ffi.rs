@@ -1,16 +1,25 @@
 //! The library's structs and functions, as its own definitions have them: tools/face writes both blocks below from those, with the comments in them kept.
 //! Two answers have the same name in two crates and carry the crate's here: IdsDoneOut and PathsDoneOut, IdsFoundAnswer and PathsFoundAnswer.
 
+/// A struct, equal where its fields are. How tokens are equal each user of this file says: the crate by the library's one comparison (values.rs), what tests or
+/// measures the library plainly (tests/host/plain.rs).
+macro_rules! declare {
+    (Token $fields:tt) => { declare! { [] Token $fields } };
+    (ResetToken $fields:tt) => { declare! { [] ResetToken $fields } };
+    ($name:ident $fields:tt) => { declare! { [PartialEq] $name $fields } };
+    ([$($equality:ident)?] $name:ident $fields:tt) => {
+        #[repr(C)]
+        #[derive(Clone, Copy, Debug, $($equality,)? Eq)]
+        pub struct $name $fields
+    };
+}
+
 /// Declares `#[repr(C)]` structs and, for the tests, a text of their layout, so that no struct can be left out of it; for tests/host/fuzz, which has this file as
 /// a module too, where their fields are.
 macro_rules! structs {
     ($($name:ident { $($field:ident: $type:ty,)* })*) => {
         $(
-            #[repr(C)]
-            #[derive(Clone, Copy, Debug, PartialEq, Eq)]
-            pub struct $name {
-                $(pub $field: $type,)*
-            }
+            declare! { $name { $(pub $field: $type,)* } }
 
             #[cfg(fuzz)]
             impl crate::parts::Parts for $name {
@@ -268,6 +277,7 @@ structs! {
 #[allow(unsafe_code)]
 unsafe extern "C" {
     pub safe fn vig_wire_code(number: u64) -> u64;
+    pub safe fn vig_token_matches(a: Token, b: Token) -> bool;
 
     pub safe fn vig_timers_fresh() -> TimerTable;
     pub safe fn vig_timers_set(t: &mut TimerTable, timer: u64, at: Moment) -> Done;

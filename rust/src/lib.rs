@@ -49,4 +49,4 @@ pub use paths::{Path, PathState, Paths, Response, SentChallenge};
 pub use refusal::Refusal;
 pub use time::{Clock, Moment, Span};
 pub use timers::{Timer, Timers};
-pub use values::{ConnectionId, FourTuple, ResetToken};
+pub use values::{token_matches, ConnectionId, FourTuple, ResetToken};

@@ -93,9 +93,55 @@ impl fmt::Debug for ConnectionId {
     }
 }
 
-/// A stateless reset token: any 16 bytes. `==` takes a time that depends on the bytes: a datagram is not to be compared with a token by it (RFC 9000, 10.3.1).
-#[derive(Clone, Copy, PartialEq, Eq)]
+/// A stateless reset token: any 16 bytes. `==` is [`token_matches`].
+#[derive(Clone, Copy, Eq)]
 pub struct ResetToken(pub [u8; 16]);
+
+impl PartialEq for ResetToken {
+    fn eq(&self, other: &ResetToken) -> bool {
+        token_matches(*self, *other)
+    }
+}
+
+impl PartialEq for ffi::ResetToken {
+    fn eq(&self, other: &ffi::ResetToken) -> bool {
+        token_matches(ResetToken(self.bytes), ResetToken(other.bytes))
+    }
+}
+
+impl PartialEq for ffi::Token {
+    fn eq(&self, other: &ffi::Token) -> bool {
+        ffi::vig_token_matches(*self, *other)
+    }
+}
+
+/// Whether two tokens are equal, or both absent. RULES.md, "Values".
+///
+/// The one comparison of tokens, for what RFC 9000, 10.3.1 asks: all sixteen bytes of both are read whatever they are, and one test ends it. Nothing is claimed
+/// about the time that it takes. It is proved to be equality.
+///
+/// ```
+/// use vignorasc::{token_matches, ConnectionId, Ids, Refusal, ResetToken};
+///
+/// # fn main() -> Result<(), Refusal> {
+/// let mut ids = Ids::fresh(2, ConnectionId::new(b"mine"), 0, None)?;
+/// ids.set_initial_dcid(ConnectionId::new(b"theirs"), Some(ResetToken([7; 16])), Some(0))?;
+///
+/// // A datagram that belongs to no connection may end with the token of an ID that is in use.
+/// let datagram = [7; 40];
+/// if let Some(last) = datagram.last_chunk() {
+///     let received = ResetToken(*last);
+///     assert!(ids.dcids().any(|item| item.path.is_some() && token_matches(received, item.token)));
+/// }
+/// # Ok(())
+/// # }
+/// ```
+///
+/// Two absent ones are equal, so a datagram too short to hold a token is not to be asked about: an item may have none.
+#[must_use]
+pub fn token_matches(a: impl Into<Option<ResetToken>>, b: impl Into<Option<ResetToken>>) -> bool {
+    ffi::vig_token_matches(token_in(a.into()), token_in(b.into()))
+}
 
 /// The bytes are a secret, which has no place in a log.
 impl fmt::Debug for ResetToken {
@@ -177,6 +223,26 @@ mod tests {
         let v4 = address_in("192.0.2.1:443".parse().unwrap());
         let ip = [192, 0, 2, 1, 0, 0, 0, 0, 0, 0, 0, 0, 0, 0, 0, 0];
         assert_eq!(v4, ffi::Address { ip, flow: 0, scope: 0, port: 443, kind: 4 });
+    }
+
+    #[test]
+    fn tokens_are_compared_to_the_end() {
+        let token = ResetToken(std::array::from_fn(|i| 16 * i as u8));
+        assert!(token == token && token_matches(token, token) && token_matches(None, None));
+        assert!(!token_matches(token, None) && !token_matches(None, ResetToken([0; 16])));
+        for bit in 0..128 {
+            let mut other = token;
+            other.0[bit / 8] ^= 1 << (bit % 8);
+            assert!(token != other && !token_matches(token, other) && !token_matches(other, token), "bit {bit}");
+            assert_ne!(Some(token), Some(other));
+        }
+        // Both differ by the same: an exclusive or of all the bytes would see nothing.
+        assert_ne!(ResetToken([0; 16]), ResetToken([1; 16]));
+        // The library's own structs, and what has them in it, are compared by the same call.
+        let [a, b] = [[3; 16], [4; 16]].map(|bytes| ffi::ResetToken { bytes });
+        assert!(a == a && a != b);
+        let [some, none] = [true, false].map(|present| ffi::Token { bytes: [0; 16], present });
+        assert!(some == some && none == none && some != none);
     }
 
     #[test]

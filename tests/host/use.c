@@ -49,6 +49,29 @@ static void timers(void) {
            (unsigned long long)next.deadline.at.us, above, (unsigned long long)vig_wire_code(above));
 }
 
+/* Each byte alone, and presence alone, is a difference; what is out of form is compared as it stands. */
+static void tokens(void) {
+    vig_token none = {{0}, false}, zeros = {{0}, true}, held = token(16), odd = {{0}, false};
+    CHECK(vig_token_matches(held, token(16)) && vig_token_matches(none, none) && !vig_token_matches(none, zeros));
+    int differ = 0;
+    for (int i = 0; i < 16; i++) {
+        vig_token other = held;
+        other.bytes[i] ^= (uint8_t)(1 << i % 8);
+        differ += !vig_token_matches(held, other) && !vig_token_matches(other, held);
+    }
+    CHECK(differ == 16);
+    odd.bytes[15] = 9;
+    CHECK(vig_token_matches(odd, odd) && !vig_token_matches(odd, none));
+
+    uint8_t datagram[40];
+    memset(datagram, 0x5a, sizeof datagram);
+    memcpy(datagram + 24, held.bytes, 16);
+    vig_token last = {{0}, true};
+    memcpy(last.bytes, datagram + sizeof datagram - 16, 16);
+    CHECK(vig_token_matches(last, held));
+    printf("tokens: a datagram that ends with the token is a reset; any of %d bytes otherwise, and it is none\n", differ);
+}
+
 static void ids(void) {
     vig_token none = {{0}, false};
     vig_ids_done_out out = vig_ids_fresh(2, id("server-0"), 0, none);
@@ -61,7 +84,7 @@ static void ids(void) {
     vig_item_answer back = vig_ids_scid_at(&t, 1);
     CHECK(back.present && back.item.seq == 1 && back.item.has_path && back.item.path == 7 && back.item.token.present);
     CHECK(back.item.cid.len == 8 && memcmp(back.item.cid.bytes, "server-1", 8) == 0);
-    CHECK(memcmp(back.item.token.bytes, token(16).bytes, 16) == 0);
+    CHECK(vig_token_matches(back.item.token, token(16)) && !vig_token_matches(back.item.token, none));
     vig_frame_answer frame = vig_ids_create_new_connection_id_frame(&t, 1);
     CHECK(frame.refusal == VIG_ACCEPTED && frame.seq == 1 && frame.retire_prior_to == 0 && frame.token.bytes[15] == 31);
     CHECK(vig_ids_add_scid(&t, id("server-2"), token(32), true, false, 0, false).refusal == VIG_CONNECTION_ID_LIMIT_ERROR);
@@ -163,6 +186,7 @@ static void paths(void) {
 
 int main(void) {
     timers();
+    tokens();
     ids();
     paths();
     return 0;

@@ -65,7 +65,7 @@ fn answer(s: States, r: Record, out: &mut [u8]) -> States {
     let call = r.call;
     let at = s.at;
     let mut u = s;
-    if (call == 0x08) | (call == 0x09) {
+    if (0x08 <= call) & (call <= 0x0a) {
         return answered(s, values_calls::line(r, out, at));
     }
     if (0x10 <= call) & (call <= 0x16) {

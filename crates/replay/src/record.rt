@@ -90,17 +90,35 @@ pub fn id(r: Record) -> ConnectionId {
     }
 }
 
-// The 16 bytes after the ID, with the record's flag a.
-pub fn token(r: Record) -> Token {
+// The 16 bytes of the area from `from` on.
+fn sixteen(area: [u8; 54], from: u8) -> [u8; 16]
+    requires { ⌜ from ≤ 38 ⌝ }
+{
+    let start = from as usize;
     let mut bytes = [0u8; 16];
     let mut i: usize = 0;
     while i < 16 {
-        bytes[i] = r.area[i + 21];
+        bytes[i] = area[start + i];
         i += 1;
     }
+    bytes
+}
+
+// The 16 bytes after the ID, with the record's flag a.
+pub fn token(r: Record) -> Token {
+    let area = r.area;
     Token {
-        bytes: bytes,
+        bytes: sixteen(area, 21),
         present: r.a,
+    }
+}
+
+// The 16 bytes after that token, with the record's flag b.
+pub fn other_token(r: Record) -> Token {
+    let area = r.area;
+    Token {
+        bytes: sixteen(area, 37),
+        present: r.b,
     }
 }
 
@@ -123,14 +141,8 @@ fn address(area: [u8; 54], from: u8) -> Address
     requires { ⌜ from ≤ 27 ⌝ }
 {
     let start = from as usize;
-    let mut ip = [0u8; 16];
-    let mut i: usize = 0;
-    while i < 16 {
-        ip[i] = area[start + 1 + i];
-        i += 1;
-    }
     Address {
-        ip: ip,
+        ip: sixteen(area, from + 1),
         flow: number(area, from + 19, 4),
         scope: number(area, from + 23, 4),
         port: (number(area, from + 17, 2) % 65536) as u16,

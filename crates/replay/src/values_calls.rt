@@ -1,4 +1,5 @@
-// The calls 08 and 09: they have no state.
+// The calls 08 to 0a: they have no state.
+use crate::record;
 use crate::record::Record;
 use crate::text;
 use values::ConnectionId;
@@ -31,6 +32,12 @@ pub fn line(r: Record, out: &mut [u8], at: usize) -> usize {
     let p = text::put_head(out, at, call, 0);
     if call == 0x08 {
         let q = text::put_number(out, p, values::wire_code(r.n0));
+        return text::put_end(out, q, 0);
+    }
+    if call == 0x0a {
+        let a = record::token(r);
+        let b = record::other_token(r);
+        let q = text::put_flag(out, p, values::token_matches(a, b));
         return text::put_end(out, q, 0);
     }
     let area = r.area;

@@ -25,7 +25,7 @@ impl States {
     /// All zeros: what a refused fresh gives.
     pub fn new() -> Self {
         let timers = ffi::vig_timers_fresh();
-        let ids = ffi::vig_ids_fresh(0, id(&[0; AREA]), 0, token(&[0; AREA], false)).ids;
+        let ids = ffi::vig_ids_fresh(0, id(&[0; AREA]), 0, token(&[0; AREA], 21, false)).ids;
         let paths = ffi::vig_paths_fresh(pair(&[0; AREA]), 0, 0, 0, false).paths;
         States { timers, ids, paths, made: BTreeMap::new() }
     }
@@ -74,6 +74,10 @@ impl States {
     fn values(&mut self, call: &Call, record: &Record) -> Outcome {
         let field = match call.name {
             "wire_code" => Field::Number(made!(self.made, vig_wire_code(record.n[0]))),
+            "token_matches" => {
+                let (a, b) = (token(&record.area, 21, record.a), token(&record.area, 37, record.b));
+                Field::Flag(made!(self.made, vig_token_matches(a, b)))
+            }
             // The archive takes IDs of their form: cutting is its hosts'.
             _ => Field::of_id(&crate::ConnectionId::new(&record.area[..record.n[0].min(AREA as u64) as usize])),
         };
@@ -100,7 +104,7 @@ impl States {
 
     fn ids(&mut self, call: &Call, record: &Record) -> Outcome {
         let (t, made, [n0, n1, ..]) = (&mut self.ids, &mut self.made, record.n);
-        let (cid, token) = (id(&record.area), token(&record.area, record.a));
+        let (cid, token) = (id(&record.area), token(&record.area, 21, record.a));
         let key = ffi::ResetToken { bytes: token.bytes };
         let (has, c, d) = (record.b, record.c, record.d);
         match call.name {
@@ -182,13 +186,13 @@ impl States {
     }
 }
 
-/// The ID, token and pair that the area holds, in whatever form.
+/// The ID, a token and the pair that the area holds, in whatever form.
 fn id(area: &[u8; AREA]) -> ffi::ConnectionId {
     ffi::ConnectionId { bytes: area[1..21].try_into().unwrap(), len: area[0] }
 }
 
-fn token(area: &[u8; AREA], present: bool) -> ffi::Token {
-    ffi::Token { bytes: area[21..37].try_into().unwrap(), present }
+fn token(area: &[u8; AREA], from: usize, present: bool) -> ffi::Token {
+    ffi::Token { bytes: area[from..from + 16].try_into().unwrap(), present }
 }
 
 fn pair(area: &[u8; AREA]) -> ffi::FourTuple {

@@ -12,6 +12,8 @@ mod digest;
 mod ffi;
 #[path = "../../../oracle/src/mix.rs"]
 mod mix;
+#[path = "../plain.rs"]
+mod plain;
 #[path = "../../../oracle/src/record.rs"]
 #[allow(dead_code)]
 mod record;

@@ -17,6 +17,8 @@ mod ids;
 mod lent;
 mod parts;
 mod paths;
+#[path = "../plain.rs"]
+mod plain;
 mod random;
 mod timers;
 
@@ -43,12 +45,14 @@ fn run(damaged: u64, seed: u64) -> Result<(), String> {
         ids: Area::new(&mut random)?,
         paths: Area::new(&mut random)?,
         wire_code: Made::default(),
+        token_matches: Made::default(),
     };
     let states = damaged + damaged.div_ceil(2);
     for state in 0..states {
         areas.trial(state, &mut random).map_err(|why| format!("state {state} of seed {seed}: {why}"))?;
     }
     (0..=u64::from(u8::MAX)).chain([1 << 32, u64::MAX]).try_for_each(|number| areas.wire_code(number))?;
+    (0..1000).try_for_each(|_| areas.tokens(&mut random))?;
 
     areas.print_calls();
     println!("fuzz: seed {seed}: {damaged} states damaged and {} not", states - damaged);
@@ -61,6 +65,7 @@ struct Areas {
     ids: Area<ffi::Ids>,
     paths: Area<ffi::Paths>,
     wire_code: Made,
+    token_matches: Made,
 }
 
 impl Areas {
@@ -93,9 +98,34 @@ impl Areas {
         }
     }
 
+    /// A token in or out of form beside itself, beside one in which a single bit or the flag is another, and beside one of other bytes.
+    fn tokens(&mut self, random: &mut Random) -> Result<(), String> {
+        let token = ffi::Token { bytes: random.bytes(), present: random.flag() };
+        self.token_matches(token, token)?;
+        self.token_matches(token, ffi::Token { present: !token.present, ..token })?;
+        self.token_matches(token, ffi::Token { bytes: random.bytes(), ..token })?;
+        (0..128).try_for_each(|bit| {
+            let mut other = token;
+            other.bytes[bit / 8] ^= 1 << (bit % 8);
+            self.token_matches(token, other)
+        })
+    }
+
+    /// RULES.md, "Values": presence and bytes.
+    fn token_matches(&mut self, a: ffi::Token, b: ffi::Token) -> Result<(), String> {
+        self.token_matches.calls += 1;
+        let number = |token: ffi::Token| u128::from_be_bytes(token.bytes);
+        let expected = (number(a), a.present) == (number(b), b.present);
+        match ffi::vig_token_matches(a, b) {
+            answer if answer == expected => Ok(()),
+            answer => Err(format!("vig_token_matches({a:?}, {b:?}) is {answer}")),
+        }
+    }
+
     fn print_calls(&self) {
         let made = self.timers.made().chain(self.ids.made()).chain(self.paths.made());
-        for (name, Made { calls, ones }) in made.chain([("vig_wire_code", self.wire_code)]) {
+        let stateless = [("vig_wire_code", self.wire_code), ("vig_token_matches", self.token_matches)];
+        for (name, Made { calls, ones }) in made.chain(stateless) {
             println!("{name:<42} {calls:>7} calls {ones:>7} answered 1");
         }
         let answers: [u64; 9] = std::array::from_fn(|refusal| {
