@@ -236,7 +236,7 @@ mod tests {
             assert!(token != other && !token_matches(token, other) && !token_matches(other, token), "bit {bit}");
             assert_ne!(Some(token), Some(other));
         }
-        // Both differ by the same: an exclusive or of all the bytes would see nothing.
+        // Every byte differs by the same: an exclusive or of them all would see nothing.
         assert_ne!(ResetToken([0; 16]), ResetToken([1; 16]));
         // The library's own structs, and what has them in it, are compared by the same call.
         let [a, b] = [[3; 16], [4; 16]].map(|bytes| ffi::ResetToken { bytes });
