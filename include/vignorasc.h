@@ -5,9 +5,9 @@
  * A state (vig_timer_table, vig_ids, vig_paths) belongs to the host, which lends it to a call by a pointer. The calls keep nothing, allocate nothing, know no clock
  * and have no globals, so two threads may work on two states, or read one.
  *
- * No call asks anything of its caller but this: a pointer points to a whole state, which nobody else writes meanwhile, and every bool in it is 0 or 1. What
- * is out of form is refused with VIG_MALFORMED. Write a state through the calls alone: one of your own making is refused, or is well formed and means what
- * it says.
+ * No call asks anything of its caller but this: a pointer points to a whole state, which nobody else writes meanwhile, and every bool, there and in an argument,
+ * is 0 or 1. What is out of form is refused with VIG_MALFORMED. Write a state through the calls alone: one of your own making is refused, or is well formed and
+ * means what it says.
  *
  * The answer of a call on a state begins with `refusal`: 0 where the call was accepted. On a refusal every other field is zero, and RULES.md, "Refusals", says
  * what the state is left as.
@@ -62,7 +62,8 @@ typedef struct vig_token {
 } vig_token;
 
 /* Whether presence and bytes are equal: for a token that came in a datagram, against those held (RFC 9000, 10.3.1). All sixteen bytes of both are read, whatever
- * they are; nothing is claimed about time. Any two values are compared as they stand, and there is no refusal. */
+ * they are; nothing is claimed about time. Any two values are compared as they stand, and there is no refusal. Two absent ones are equal: of a token that came,
+ * present is true. */
 bool vig_token_matches(vig_token a, vig_token b);
 
 /* kind is 4 or 6. Kind 4 uses the first 4 bytes of ip; the others, flow and scope are then zero. ip is in network order; port, flow and scope are numbers. */

@@ -14,7 +14,7 @@ use Rattle.values.specs.Token.{tokenView}
 use Rattle.values.specs.declared.token.Token.{Token}
 use Rattle.values.specs.declared.cid.ConnectionId.{ConnectionId}
 use Rattle.values.specs.declared.used.UsedSeq.{UsedSeq}
-use Rattle.ids_rules.specs.Values.{Item, from, below, clashes, sameToken, repeats}
+use Rattle.ids_rules.specs.Values.{Item, from, below, clashes, sharedToken, repeats}
 use Rattle.ids_rules.specs.View.{Out, refused, accepted, Retired}
 use Rattle.ids_rules.specs.With.{withDcidsToRetire}
 use Rattle.ids_rules.specs.Steps.{append, queueLate, pairs, lowered, raise, addNew, addDcid}
@@ -140,10 +140,10 @@ module _ (s : Ids) (w : wellFormed s ≡ true) (x : I.Item) (f : F.itemFormed x 
 
 -- what the first judgement says
 
-same-tokens : (a b : Token) → sameToken (tokenView a) (tokenView b) ≡ T.sharedToken a b
-same-tokens a b = go (a .present) (b .present)
+shared-tokens : (a b : Token) → sharedToken (tokenView a) (tokenView b) ≡ T.sharedToken a b
+shared-tokens a b = go (a .present) (b .present)
   where
-    go : (p q : Bool) → sameToken (given p (a .bytes)) (given q (b .bytes)) ≡ (p && (Bool·beq p q && same (a .bytes) (b .bytes)))
+    go : (p q : Bool) → sharedToken (given p (a .bytes)) (given q (b .bytes)) ≡ (p && (Bool·beq p q && same (a .bytes) (b .bytes)))
     go true true = refl
     go true false = refl
     go false q = refl
@@ -154,7 +154,7 @@ module _ {A : Type 0} (x : I.Item) (n a c : A) where
 
   module _ (y : I.Item) (l : List I.Item) where
     repeat-is : repeats (itemView y) (itemView x) ≡ T.repeating x y
-    repeat-is = ap (λ (t : Bool). sameId (y .cid) (x .cid) && eqb (y .seq) (x .seq) && t) (same-tokens (y .token) (x .token))
+    repeat-is = ap (λ (t : Bool). sameId (y .cid) (x .cid) && eqb (y .seq) (x .seq) && t) (shared-tokens (y .token) (x .token))
 
     pub judged-view : (t u : Bool) → T.clashing x y ≡ t → T.repeating x y ≡ u → clashAt (map itemView (y ∷ l)) ≡ cond t (cond u a c) (clashAt (map itemView l))
     judged-view t u et eu = ap (λ (p : Bool). maybe (cond p (some (itemView y)) (first (λ (z : Item). clashes z (itemView x)) (map itemView l))) n (λ z. cond (repeats z (itemView x)) a c)) et ∙ go t

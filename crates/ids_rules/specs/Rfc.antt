@@ -13,7 +13,7 @@ use Rattle.values.specs.declared.cid.ConnectionId.{ConnectionId}
 use Rattle.values.specs.Cid.{cidNew, zeroId, sameId}
 use Rattle.values.specs.Limits.{maxCidLen, tokenLen, minScidLimit, maxCidsCount, maxSequence, queueSlots, retireFactor, capacityFor}
 use Rattle.values.specs.Refusals.{wireCode, CONNECTION-ID-LIMIT-ERROR, PROTOCOL-VIOLATION}
-use Rattle.ids_rules.specs.Values.{Item, seqOf, hasSeq, hasCid, from, below, clashes, sameToken, repeats}
+use Rattle.ids_rules.specs.Values.{Item, seqOf, hasSeq, hasCid, from, below, clashes, sharedToken, repeats}
 use Rattle.ids_rules.specs.View.{View, Out, Issued, Retired, Perhaps, Frame, accepted}
 use Rattle.ids_rules.specs.Steps.{fresh, sole, without, lowestFrom}
 use Rattle.ids_rules.specs.Well.{well}
@@ -297,7 +297,7 @@ OnePath table v u o = o .refusal ≡ 0 → any (λ (x : Item). hasSeq (u .seq) x
 
 -- the same token MUST NOT be used for two IDs: ours, and the peer's, where it MAY be a PROTOCOL_VIOLATION
 abbrev pub shares : ConnectionId → Option (List ℕ) → Item → Bool
-shares c t x = not (hasCid c x) && sameToken (x .token) t
+shares c t x = not (hasCid c x) && sharedToken (x .token) t
 
 abbrev pub TokenOnce : Rule Issue
 TokenOnce v i o = o .refusal ≡ 0 → any (shares (i .cid) (i .token)) (v .scids) ≡ false

@@ -42,12 +42,12 @@ abbrev pub clashes : Item → Item → Bool
 clashes x y = sameId (x .cid) (y .cid) || eqb (x .seq) (y .seq)
 
 -- both are present, with equal bytes: an absent token differs from the one that a frame brings
-abbrev pub sameToken : Option (List ℕ) → Option (List ℕ) → Bool
-sameToken a b = maybe a false (λ s. maybe b false (same s))
+abbrev pub sharedToken : Option (List ℕ) → Option (List ℕ) → Bool
+sharedToken a b = maybe a false (λ s. maybe b false (same s))
 
 -- ID, sequence and token are all equal
 abbrev pub repeats : Item → Item → Bool
-repeats x y = sameId (x .cid) (y .cid) && eqb (x .seq) (y .seq) && sameToken (x .token) (y .token)
+repeats x y = sameId (x .cid) (y .cid) && eqb (x .seq) (y .seq) && sharedToken (x .token) (y .token)
 
 -- every item but sequence 0 has a token; its ID has its form
 abbrev pub itemFormed : Item → Bool
