@@ -242,7 +242,7 @@ vig_done vig_ids_set_scid_limit(vig_ids *t, uint64_t n);
 vig_counted vig_ids_add_scid(vig_ids *t, vig_connection_id cid, vig_token token, bool advertise, bool has_path, uint64_t path, bool retire_if_needed);
 vig_numbered vig_ids_retire_scid(vig_ids *t, uint64_t seq, vig_connection_id packet);
 
-/* ---- RULES.md, "Destination IDs" ---- */
+/* ---- RULES.md, "Destination IDs"; a frame below an earlier Retire Prior To gives no ID: it is queued to be retired, or waits there already and changes nothing ---- */
 
 vig_done vig_ids_set_initial_dcid(vig_ids *t, vig_connection_id cid, vig_token token, bool has_path, uint64_t path);
 vig_retired_answer vig_ids_add_dcid(vig_ids *t, vig_connection_id cid, uint64_t seq, vig_reset_token token, uint64_t retire_prior_to);

@@ -60,10 +60,11 @@ fn ways(area: Area, name: &str) -> Vec<&'static str> {
             ID, STATE,
             "zero-length repeat-same repeat-same-raising repeat-same-rpt-above repeat-id-differs repeat-seq-differs",
             "repeat-token-differs repeat-token-absent repeat-two-items rpt-above-seq",
+            "waits-room waits-full waits-twice waits-over-limit waits-no-slot waits-with-rpt",
             "late-no-slot late-over-limit late-queued late-queue-at-limit",
             "raise-no-slot raise-over-limit-moved raise-over-limit-none-moved raise-full",
             "raise-none-moved raise-moved-unused raise-moved-pairs raise-queue-at-limit",
-            "full full-again appended appended-again",
+            "full appended queued-not-late queued-raising",
         ],
         (Area::Ids, "retire_scid") => &[
             ID, STATE,

@@ -71,6 +71,12 @@ pub mod cid {
             }
         }
 
+        /// Takes the last destination item out again: its sequence.
+        #[cfg(test)]
+        pub fn drop_last_dcid(&mut self) -> Option<u64> {
+            self.dcids.queue.pop_back().map(|item| item.seq)
+        }
+
         pub fn write_next(&mut self, next: u64) {
             self.next_scid_seq = next;
         }

@@ -1,6 +1,7 @@
-//! The glue of the IDs. Refusals 1, 6 and 7 lie outside the equality: their conditions are tested here, on the Rust's own
-//! state, and the Rust is then not called. Of every other call the Rust gives the answer; `way` only names the way taken,
-//! and the refusal that the documents give for it is held against the Rust's.
+//! The glue of the IDs. Refusals 1, 6 and 7 lie outside the equality, and so does a frame whose sequence is below the
+//! largest Retire Prior To and waits to be retired (DIFFERENCES.md, D3 and D18): their conditions are tested here, on the
+//! Rust's own state, and the Rust is then not called. Of every other call the Rust gives the answer; `way` only names the
+//! way taken, and the refusal that the documents give for it is held against the Rust's.
 
 use super::cid::{ConnectionIdItem, ConnectionIdMgr, IdsPeek};
 use crate::branches::{Tally, IDS_STATE};
@@ -10,6 +11,8 @@ use crate::{digest, refusal_of, Result};
 
 /// The longest advertise or retire queue.
 pub const QUEUE: usize = 128;
+/// How the ways begin by which a late frame changes nothing, and the Rust isn't asked: D3 and D18.
+const WAITS: &str = "waits-";
 
 pub fn answer(ids: &mut ConnectionIdMgr, call: &Call, record: &Record, tally: &mut Tally) -> Outcome {
     if call.write {
@@ -36,7 +39,8 @@ pub fn answer(ids: &mut ConnectionIdMgr, call: &Call, record: &Record, tally: &m
     }
     let (way, refusal) = way(&ids.peek(), call, record, tally);
     tally.hit(call.number, way);
-    if refusal >= 6 {
+    // The answer of one that waits is accepted, with no pairs: every field is zero.
+    if refusal >= 6 || way.starts_with(WAITS) {
         return Outcome::refused(call, refusal);
     }
     let outcome = match perform(ids, call, record) {
@@ -333,9 +337,10 @@ fn add_dcid(ids: &IdsPeek, record: &Record, tally: &mut Tally) -> (&'static str,
         return ("rpt-above-seq", 4);
     }
     let (queued, most) = (ids.retire.len(), 4 * ids.dcid_limit);
-    let late = seq < ids.peer_rpt;
-    let again = late && ids.retire.contains(&seq);
-    if late && !again {
+    if seq < ids.peer_rpt {
+        if ids.retire.contains(&seq) {
+            return waits(ids, record, tally);
+        }
         tally.hit_if(queued + 1 == most, record.call, "late-queue-at-limit");
         return match queued + 1 {
             length if length > QUEUE => ("late-no-slot", 6),
@@ -347,6 +352,7 @@ fn add_dcid(ids: &IdsPeek, record: &Record, tally: &mut Tally) -> (&'static str,
         let lower = || ids.dcids.iter().filter(|item| item.seq < rpt);
         let length = queued + lower().count();
         let moved = lower().next().is_some();
+        tally.hit_if(ids.retire.contains(&seq), record.call, "queued-raising");
         if length > QUEUE {
             return ("raise-no-slot", 6);
         }
@@ -363,12 +369,23 @@ fn add_dcid(ids: &IdsPeek, record: &Record, tally: &mut Tally) -> (&'static str,
             (true, true) => ("raise-moved-pairs", 0),
         };
     }
-    match (ids.dcids.len() == ids.dcid_capacity, again) {
-        (true, false) => ("full", 3),
-        (true, true) => ("full-again", 3),
-        (false, false) => ("appended", 0),
-        (false, true) => ("appended-again", 0),
+    tally.hit_if(ids.retire.contains(&seq), record.call, "queued-not-late");
+    if ids.dcids.len() == ids.dcid_capacity {
+        ("full", 3)
+    } else {
+        ("appended", 0)
     }
+}
+
+/// A late sequence that is in the retire queue. The Rust takes the frame for that of a new ID: where the table has room it
+/// adds the item (D3), and where it is full it answers 3 (D18).
+fn waits(ids: &IdsPeek, record: &Record, tally: &mut Tally) -> (&'static str, u8) {
+    let (seq, queued) = (record.n[0], ids.retire.len());
+    tally.hit_if(ids.retire.iter().filter(|other| **other == seq).count() > 1, record.call, "waits-twice");
+    tally.hit_if(queued > 4 * ids.dcid_limit, record.call, "waits-over-limit");
+    tally.hit_if(queued == QUEUE, record.call, "waits-no-slot");
+    tally.hit_if(record.n[1] > 0, record.call, "waits-with-rpt");
+    (if ids.dcids.len() == ids.dcid_capacity { "waits-full" } else { "waits-room" }, 0)
 }
 
 fn retire_scid(ids: &IdsPeek, record: &Record) -> (&'static str, u8) {
@@ -419,5 +436,40 @@ mod tests {
             refused += (refusal == 6) as u64;
         }
         assert!(refused > 100);
+    }
+
+    /// Where a late frame waits, the Rust, had it been called, would have added its item or answered 3, and nothing else: the
+    /// table alone differs, by that item.
+    #[test]
+    fn one_that_waits_is_all_that_the_rust_does_otherwise() {
+        let (mut generator, mut world, mut seen) = (Generator::new(vec![Area::Ids], 4), World::new(), [0; 2]);
+        for _ in 0..100_000 {
+            let record = generator.next();
+            let Some(call) = find(record.call) else { continue };
+            let mut copy = world.ids.copy();
+            let before = digest::of_ids(&world.ids);
+            let outcome = world.apply(call, &record);
+            let waits = call.name == "add_dcid" && outcome.refusal == 0 && {
+                let (ids, seq) = (copy.peek(), record.n[0]);
+                let held = ids.dcids.iter().any(|item| item.cid == record.id() || item.seq == seq);
+                seq < ids.peer_rpt && ids.retire.contains(&seq) && !held
+            };
+            if !waits {
+                continue;
+            }
+            assert_eq!(digest::of_ids(&world.ids), before);
+            assert!(outcome.fields == Outcome::refused(call, 0).fields);
+            let full = copy.peek().dcids.len() == copy.peek().dcid_capacity;
+            let given = perform(&mut copy, call, &record);
+            if full {
+                assert!(given.is_err_and(|error| refusal_of(&error) == 3));
+            } else {
+                assert!(given.is_ok_and(|fields| fields == outcome.fields));
+                assert_eq!(copy.drop_last_dcid(), Some(record.n[0]));
+            }
+            assert_eq!(digest::of_ids(&copy), before);
+            seen[full as usize] += 1;
+        }
+        assert!(seen.iter().all(|count| *count > 100), "{seen:?}");
     }
 }

@@ -89,6 +89,8 @@ struct Server {
     /// For each path: bytes sent there, and how often the credit forbade more.
     sent: [usize; MAX_PATHS],
     held: [usize; MAX_PATHS],
+    /// Every ID of the client below this sequence is retired.
+    retired_to: u64,
 }
 
 impl Server {
@@ -105,7 +107,7 @@ impl Server {
         let paths = Paths::fresh(pair, DATAGRAM, MAX_PATHS, FACTOR, true)?;
         let timers = Timers::fresh();
         let (sent, held) = ([0; MAX_PATHS], [0; MAX_PATHS]);
-        let mut server = Server { clock, socket, timers, ids, paths, push, acked: 0, next: 0, current: 0, sent, held };
+        let mut server = Server { clock, socket, timers, ids, paths, push, acked: 0, next: 0, current: 0, sent, held, retired_to: 0 };
 
         server.datagram(&buffer[..length], from)?;
         while !server.done()? {
@@ -243,6 +245,9 @@ impl Server {
                     self.paths.set_dcid_seq(path, None)?;
                     self.say(format!("path {path}: destination ID {seq} retired by the client"));
                 }
+                // The core's promise, seen from its host: what is retired stays out, also where a copy of its frame comes late.
+                self.retired_to = self.retired_to.max(new.retire_prior_to);
+                assert!(self.ids.dcids().all(|item| item.seq >= self.retired_to), "a retired ID came back");
             }
             Frame::RetireId(seq) => {
                 if let Some(path) = self.ids.retire_scid(seq, to)? {
@@ -503,7 +508,8 @@ impl Client {
                 pad = true;
             }
             if moved.answered && moved.known && !moved.retired {
-                datagram = datagram.retire_id(0).new_id(&client_frame(2, 1));
+                // With a copy of the frame of its first ID, which was held up on the way.
+                datagram = datagram.retire_id(0).new_id(&client_frame(2, 1)).new_id(&client_frame(0, 0));
             }
             if challenge.is_some() && !moved.answers {
                 moved.answers = true;

@@ -130,7 +130,8 @@ impl Ids {
     }
 
     /// A NEW_CONNECTION_ID frame came: the answer is the sequence and the path of each ID in use that it retired. They are queued to be retired,
-    /// see [`Ids::next_dcid_to_retire`].
+    /// see [`Ids::next_dcid_to_retire`]. A frame below an earlier Retire Prior To gives no ID: its sequence is queued too or, where it waits there already,
+    /// nothing changes.
     pub fn add_dcid(
         &mut self,
         cid: ConnectionId,
@@ -312,6 +313,28 @@ mod tests {
             ids.mark_dcid_to_retire(n, false).unwrap();
         }
         assert_eq!(ids.need_send_cid_control_frames(), Ok(false));
+    }
+
+    /// The frame of a retired sequence, received again: while it waits, after its RETIRE_CONNECTION_ID went out, with another ID, and with the table full.
+    #[test]
+    fn what_is_retired_stays_out() {
+        let mut ids = Ids::fresh(1, cid(1), 0, None).unwrap();
+        ids.set_initial_dcid(cid(41), None, Some(7)).unwrap();
+        assert_eq!(ids.add_dcid(cid(42), 1, token(42), 1), Ok(vec![(0, 7)]));
+        let waits = ids.clone();
+        for (n, seq) in [(41, 0), (49, 0)] {
+            assert_eq!(ids.add_dcid(cid(n), seq, token(n), 0), Ok(vec![]));
+            assert_eq!(ids, waits);
+        }
+        ids.mark_dcid_to_retire(0, false).unwrap();
+        assert_eq!(ids.add_dcid(cid(41), 0, token(41), 0), Ok(vec![]));
+        assert_eq!(ids, waits);
+        assert_eq!(ids.dcids().map(|item| item.seq).collect::<Vec<_>>(), [1]);
+        // One that is not below is a new ID, whatever waits.
+        ids.mark_dcid_to_retire(9, true).unwrap();
+        assert_eq!(ids.add_dcid(cid(43), 9, token(43), 9), Ok(vec![]));
+        assert_eq!(ids.dcids().map(|item| item.seq).collect::<Vec<_>>(), [9]);
+        assert_eq!(ids.0.dcids_to_retire.items[..3], [0, 9, 1]);
     }
 
     #[test]

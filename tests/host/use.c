@@ -99,13 +99,18 @@ static void ids(void) {
     CHECK(retired.refusal == VIG_ACCEPTED && retired.used.count == 1);
     CHECK(retired.used.pairs[0].seq == 0 && retired.used.pairs[0].path == 0);
     CHECK(vig_ids_next_dcid_to_retire(&t).present && vig_ids_next_dcid_to_retire(&t).number == 0);
+    /* The frame of the first ID, received late: it waits to be retired, and stays out. */
+    vig_ids waits = t;
+    retired = vig_ids_add_dcid(&t, id("client-0"), 0, reset, 0);
+    CHECK(retired.refusal == VIG_ACCEPTED && retired.used.count == 0 && vig_ids_dcid_count(&t).number == 1);
+    CHECK(memcmp(&t, &waits, sizeof t) == 0);
     vig_ids_found_answer found = vig_ids_find_scid(&t, id("server-0"));
     CHECK(found.present && found.seq == 0 && found.has_path && found.path == 0);
     vig_numbered freed = vig_ids_retire_scid(&t, 0, id("server-1"));
     CHECK(freed.refusal == VIG_ACCEPTED && freed.present && freed.number == 0);
     CHECK(vig_ids_scid_count(&t).number == 1 && vig_ids_dcid_count(&t).number == 1);
-    printf("ids: the peer's new ID retires its first, which path %llu used; ours goes too\n",
-           (unsigned long long)retired.used.pairs[0].path);
+    printf("ids: the peer's new ID retires its first, which path %llu used, and which doesn't come back; ours goes too\n",
+           (unsigned long long)freed.number);
 
     /* A state that no call made. */
     vig_ids zero;

@@ -59,9 +59,8 @@ fn answered(t: Paths) -> Paths {
     push::send(t, 1, 5000)
 }
 
-// The push moves over: the new path takes an ID of its own, and is the active one.
-fn migrated(t: Paths, s: Ids) -> Paths {
-    tell::say(b"\nThe push moves to wireless.\n\n");
+// Path 1 takes the lowest ID of the peer that no path uses.
+fn takes(t: Paths, s: Ids) -> Paths {
     let low = ids::lowest_unused_dcid_seq(s);
     tell::number(
         b"              path 1 takes the peer's ID number ",
@@ -69,7 +68,13 @@ fn migrated(t: Paths, s: Ids) -> Paths {
         b"\n",
     );
     let a = paths::set_dcid_seq(t, 1, true, low.number);
-    let t = a.paths;
+    a.paths
+}
+
+// The push moves over: the new path takes an ID of its own, and is the active one.
+fn migrated(t: Paths, s: Ids) -> Paths {
+    tell::say(b"\nThe push moves to wireless.\n\n");
+    let t = takes(t, s);
     let b = paths::set_active(t, 1, true);
     let t = b.paths;
     let c = paths::set_active(t, 0, false);
@@ -79,26 +84,42 @@ fn migrated(t: Paths, s: Ids) -> Paths {
     t
 }
 
-// The peer retires the ID that it used on cable.
-fn retired(s: Ids) -> Ids {
-    let m = ids::mark_dcid_used(s, 1, 1);
-    let s = m.ids;
-    let o = ids::add_dcid(s, laptop::id(3), 2, laptop::reset(), 1);
+// The peer brings the ID n with that sequence, and retires those below.
+fn renewed(s: Ids, n: u8, seq: u64, below: u64) -> Ids {
+    let o = ids::add_dcid(s, laptop::id(n), seq, laptop::reset(), below);
     let s = o.ids;
     let used = o.answer.used;
     let pair = used.pairs[0];
-    tell::number(
-        b"              the peer brings ID number 2 and retires number ",
-        pair.seq,
-        b"",
-    );
+    tell::number(b"              the peer brings ID number ", seq, b"");
+    tell::number(b" and retires number ", pair.seq, b"");
     tell::number(b", which path ", pair.path, b" used\n");
+    s
+}
+
+// What is queued to be retired goes out.
+fn retired(s: Ids) -> Ids {
     let next = ids::next_dcid_to_retire(s);
     tell::number(
         b"              RETIRE_CONNECTION_ID goes out for number ",
         next.number,
         b"\n",
     );
+    let o = ids::mark_dcid_to_retire(s, next.number, false);
+    o.ids
+}
+
+// A copy of the frame that brought number 1, which now waits to be retired: it stays out.
+fn held_up(s: Ids) -> Ids {
+    let o = ids::add_dcid(s, laptop::id(2), 1, laptop::reset(), 0);
+    let s = o.ids;
+    let next = ids::next_dcid_to_retire(s);
+    tell::number(
+        b"              the old frame comes: number ",
+        next.number,
+        b" waits to be retired and stays out",
+    );
+    let count = ids::dcid_count(s);
+    tell::number(b", ", count.number, b" IDs are held as before\n");
     s
 }
 
@@ -112,9 +133,18 @@ fn main() {
     let t = guessed(t);
     let t = answered(t);
     let t = migrated(t, s);
+    let m = ids::mark_dcid_used(s, 1, 1);
+    let s = renewed(m.ids, 3, 2, 1);
     let s = retired(s);
     tell::say(b"\nThe last properties go out on wireless.\n\n");
     let t = push::send(t, 1, 4600);
+    tell::say(
+        b"\nThe peer renews its IDs. A copy of the frame that brought number 1 was held up on cable, and comes after all.\n\n",
+    );
+    let s = renewed(s, 4, 3, 2);
+    let t = takes(t, s);
+    let s = held_up(s);
+    let s = retired(s);
     tell::say(b"\nA mistake of the host changes nothing: ");
     let bad = paths::set_active(t, 7, true);
     tell::number(

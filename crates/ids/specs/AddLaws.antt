@@ -42,6 +42,10 @@ module _ (s : Ids) (w : wellFormed s ≡ true) where
   pub keeps : (n : ℕ) (o : Out) → o ≡ refused n (view s) → (r : RetiredOut) → r ≡ retiredAt n [] s → r ≡ retiredOf o
   keeps n o e r q = q ∙ ap (retiredAt n []) (sym (view-is s w)) ∙ sym (ap retiredOf e)
 
+  -- the same, accepted
+  pub stays : (o : Out) → o ≡ accepted (Retired []) (view s) → (r : RetiredOut) → r ≡ retiredAt 0 [] s → r ≡ retiredOf o
+  stays o e r q = q ∙ ap (retiredAt 0 []) (sym (view-is s w)) ∙ sym (ap retiredOf e)
+
   module _ (seq : ℕ) where
     pub late-6 : queueSlots ≤ s .«dcids_to_retire» .count → (r : RetiredOut) → r ≡ retiredAt 6 [] s → r ≡ retiredOf (queueLate seq (view s))
     late-6 h = keeps 6 (queueLate seq (view s)) (late-full seq (view s) (omega (arith, retire-long s w)))
@@ -211,10 +215,10 @@ module _ (s : Ids) (w : wellFormed s ≡ true) (cid : ConnectionId) (seq : ℕ) 
       on-past = ap (λ (t : Bool). cond t (refused 4 (view s)) past) z
 
       pub add-repeat : j ≡ 1 → r ≡ retiredAt 0 [] s → r ≡ retiredOf (addDcid cid seq token b (view s))
-      add-repeat h q = q ∙ ap (retiredAt 0 []) (sym (view-is s w)) ∙ sym (ap retiredOf (on-past ∙ judged-1 item _ _ _ (live (s .dcids)) (sym e ∙ h)))
+      add-repeat h = stays s w (addDcid cid seq token b (view s)) (on-past ∙ judged-1 item _ _ _ (live (s .dcids)) (sym e ∙ h)) r
 
       pub add-clash : (j ≡ 0 → ⊥) → (j ≡ 1 → ⊥) → r ≡ retiredAt 4 [] s → r ≡ retiredOf (addDcid cid seq token b (view s))
-      add-clash h k q = q ∙ ap (retiredAt 4 []) (sym (view-is s w)) ∙ sym (ap retiredOf (on-past ∙ judged-2 item _ _ _ (live (s .dcids)) (λ y. h (e ∙ y)) (λ y. k (e ∙ y))))
+      add-clash h k = keeps s w 4 (addDcid cid seq token b (view s)) (on-past ∙ judged-2 item _ _ _ (live (s .dcids)) (λ y. h (e ∙ y)) (λ y. k (e ∙ y))) r
 
       pub add-new : j ≡ 0 → r ≡ retiredOf (addNew (itemView item) b (view s)) → r ≡ retiredOf (addDcid cid seq token b (view s))
       add-new h q = q ∙ sym (ap retiredOf (on-past ∙ judged-0 item _ _ _ (live (s .dcids)) (sym e ∙ h)))

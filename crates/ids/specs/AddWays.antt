@@ -2,7 +2,7 @@
 use Prim.Native.Nat.{ℕ, _*_, _≤_, _<_}
 use mathlib.Core.Path.{_≡_, ap, ap₂, _∙_}
 use mathlib.Core.List.{List, [], _∷_, _++_, map}
-use mathlib.Core.Bool.{Bool, not, cond, _&&_}
+use mathlib.Core.Bool.{Bool, cond}
 use lib.Dec.{ltb}
 use lib.ListN.{length}
 use borrow.Author.Tests.{lt-ltb, le-ltb, le-leb, lt-leb}
@@ -65,16 +65,15 @@ module _ (x : Item) (b : ℕ) (v : View) where
 -- ---- past the first item with equal ID or sequence
 
 module _ (x : Item) (b : ℕ) (v : View) where
-  abbrev lateTest : Bool
-  lateTest = ltb (x .seq) (v .largestPeerRetirePriorTo) && not (has (x .seq) (v .dcidsToRetire))
+  abbrev new3 : Bool → Out
+  new3 r = cond r (raise x b v) (append x [] v)
 
-  abbrev pub new3 : Bool → Out
-  new3 t = cond t (raise x b v) (append x [] v)
+  abbrev new2 : Bool → Bool → Bool → Out
+  new2 q w r = cond q (cond w (accepted (Retired []) v) (queueLate (x .seq) v)) (new3 r)
 
-  abbrev pub new2 : Bool → Bool → Out
-  new2 t u = cond t (queueLate (x .seq) v) (new3 u)
-
-  -- addNew, by what its three tests say
-  pub new-is : (p q r : Bool) → ltb (x .seq) b ≡ p → (ltb (x .seq) (v .largestPeerRetirePriorTo) && not (has (x .seq) (v .dcidsToRetire))) ≡ q → ltb (v .largestPeerRetirePriorTo) b ≡ r
-      → addNew x b v ≡ cond p (refused 4 v) (cond q (queueLate (x .seq) v) (cond r (raise x b v) (append x [] v)))
-  new-is p q r ep eq er = ap (λ (t : Bool). cond t (refused 4 v) (new2 lateTest (ltb (v .largestPeerRetirePriorTo) b))) ep ∙ ap₂ (λ (t u : Bool). cond p (refused 4 v) (new2 t u)) eq er
+  -- addNew, by what its four tests say
+  pub new-is : (p q w r : Bool) → ltb (x .seq) b ≡ p → ltb (x .seq) (v .largestPeerRetirePriorTo) ≡ q → has (x .seq) (v .dcidsToRetire) ≡ w → ltb (v .largestPeerRetirePriorTo) b ≡ r
+      → addNew x b v ≡ cond p (refused 4 v) (cond q (cond w (accepted (Retired []) v) (queueLate (x .seq) v)) (cond r (raise x b v) (append x [] v)))
+  new-is p q w r ep eq ew er =
+      ap (λ (t : Bool). cond t (refused 4 v) (new2 (ltb (x .seq) (v .largestPeerRetirePriorTo)) (has (x .seq) (v .dcidsToRetire)) (ltb (v .largestPeerRetirePriorTo) b))) ep
+      ∙ ap₂ (λ (t u : Bool). cond p (refused 4 v) (new2 t u (ltb (v .largestPeerRetirePriorTo) b))) eq ew ∙ ap (λ (t : Bool). cond p (refused 4 v) (new2 q w t)) er

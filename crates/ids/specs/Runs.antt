@@ -11,8 +11,8 @@ use mathlib.Core.List.{List, [], _∷_, _++_, map}
 use mathlib.Core.Bool.{Bool, true, false, cond, not, _&&_, _||_}
 use mathlib.Core.Option.{Option, none, some}
 use lib.Dec.{eqb, leb}
-use lib.ListN.{length}
-use Rattle.lists.specs.Defs.{given, keep, has, maybe}
+use lib.ListN.{length, drop}
+use Rattle.lists.specs.Defs.{given, keep, any, all, has, maybe}
 use Rattle.values.specs.Cid.{idFormed}
 use Rattle.values.specs.Token.{tokenFormed, tokenView}
 use Rattle.values.specs.declared.token.Token.{Token}
@@ -26,7 +26,8 @@ use Rattle.ids_rules.specs.View.{Out}
 use Rattle.ids_rules.specs.Steps.{freshFormed}
 use Rattle.ids_rules.specs.Calls.{Query, GetScid, GetDcid, FindScid, UnusedScids, UnusedDcids, LowestUnusedDcidSeq, NextScidToAdvertise, NextDcidToRetire, CreateNewConnectionIdFrame, NeedSendCidControlFrames, ZeroLengthScid, ZeroLengthDcid, ScidCount, ScidAt, DcidCount, DcidAt}
 use Rattle.ids_rules.specs.Calls.{Call, Reply, queryFormed, callFormed, apply, run}
-use Rattle.ids_rules.specs.Promise.{Starts, counted, out, sequences}
+use Rattle.ids_rules.specs.Promise.{Starts, counted, out, sequences, neverAfter}
+use Rattle.tables.specs.Table.{live, atLeast}
 use Rattle.ids_state.specs.Formed.{wellFormed}
 use Rattle.ids_state.specs.declared.state.Ids.{Ids}
 use Rattle.ids.specs.Reading.{view, pathFormed, doneOf, issuedOf, freedOf, retiredOf, countedOf, flaggedOf, numberedOf, itemAnswerOf, foundAnswerOf, frameOf}
@@ -40,6 +41,7 @@ use Rattle.ids.specs.declared.answers.IssuedOut.{IssuedOut}
 use Rattle.ids.specs.declared.answers.FreedOut.{FreedOut}
 use Rattle.ids.specs.declared.answers.RetiredOut.{RetiredOut}
 use Rattle.ids_rules.specs.Calls as C
+use Rattle.ids_rules.specs.Promise as P
 
 -- ---- the published calls: nine that change the state, sixteen that read it, and fresh
 
@@ -368,6 +370,27 @@ abbrev pub NeverReturns : Type 0
 NeverReturns = (s : Ids) → Started s → (cs ds : List CodeCall) (n : ℕ) → has n (0 ∷ issues s cs) ≡ true
     → has n (sourceSeqs (calls s cs)) ≡ false → has n (sourceSeqs (calls s (cs ++ ds))) ≡ false
 
+-- ---- and of the destination sequences that the peer has retired [10]
+
+-- the call is set_initial_dcid; it is add_dcid
+abbrev pub setsInitial : CodeCall → Bool
+setsInitial c = P.setsInitial (viewCall c)
+
+abbrev pub takesFrame : CodeCall → Bool
+takesFrame c = P.takesFrame (viewCall c)
+
+-- no item of the destination table has a sequence below the field largest_peer_retire_prior_to
+abbrev pub noneBelow : Ids → Bool
+noneBelow s = all (atLeast (s .«largest_peer_retire_prior_to»)) (live (s .dcids))
+
+-- so it is over any calls from a fresh state, refused ones too, of which set_initial_dcid is at most the first: after any of them, cs, whatever comes then, ds
+abbrev pub NoneBelow : Type 0
+NoneBelow = (s : Ids) → Started s → (cs ds : List CodeCall) → any setsInitial (drop 1 (cs ++ ds)) ≡ false → noneBelow (calls s cs) ≡ true
+
+-- and more: set_initial_dcid may come as often as one likes before the first add_dcid
+abbrev pub NoneBelowEarly : Type 0
+NoneBelowEarly = (s : Ids) → Started s → (cs ds : List CodeCall) → neverAfter setsInitial takesFrame (cs ++ ds) ≡ true → noneBelow (calls s cs) ≡ true
+
 -- ---- all of it
 
 pub record Promises : Type 0 where
@@ -386,3 +409,5 @@ pub record Promises : Type 0 where
   pub withoutGap : WithoutGap
   pub tableIsHistory : TableIsHistory
   pub neverReturns : NeverReturns
+  pub noneBelow : NoneBelow
+  pub noneBelowEarly : NoneBelowEarly

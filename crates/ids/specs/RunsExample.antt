@@ -1,5 +1,5 @@
 -- A run of the code with every call that changes the IDs, some of them refused, by computation: the promises about source sequences are not vacuous, and
--- their numbers come out.
+-- their numbers come out. Then the runs of ids_rules' BelowExample.antt, on the code: those about retired destination sequences.
 use Prim.Native.Nat.{ℕ}
 use mathlib.Core.Path.{_≡_, refl}
 use mathlib.Core.List.{List, [], _∷_, map}
@@ -12,11 +12,13 @@ use Rattle.values.specs.declared.cid.ConnectionId.{ConnectionId}
 use Rattle.values.specs.declared.token.Token.{Token}
 use Rattle.values.specs.declared.token.ResetToken.{ResetToken}
 use Rattle.ids_rules.specs.Calls as C
+use Rattle.tables.specs.Table.{live, seqOf}
 use Rattle.ids_state.specs.declared.state.Ids.{Ids}
 use Rattle.ids_rules.specs.Promise.{counted}
+use Rattle.ids_rules.specs.BelowExample.{late, long, answers}
 use Rattle.ids.specs.Reading.{view, freshIds}
-use Rattle.ids.specs.Runs.{CodeCall, SetInitialDcid, SetScidLimit, AddScid, RetireScid, AddDcid, MarkScidUsed, MarkDcidUsed, MarkScidToAdvertise, MarkDcidToRetire, Reads, Started, started, Event, refusalIn, calls, issues, history, remaining, sourceSeqs}
-use Rattle.ids.specs.RunsProof.{without-gap, table-is-history}
+use Rattle.ids.specs.Runs.{CodeCall, SetInitialDcid, SetScidLimit, AddScid, RetireScid, AddDcid, MarkScidUsed, MarkDcidUsed, MarkScidToAdvertise, MarkDcidToRetire, Reads, Started, started, Event, refusalIn, calls, issues, history, remaining, sourceSeqs, noneBelow}
+use Rattle.ids.specs.RunsProof.{complete, without-gap, table-is-history, none-below}
 
 abbrev cid : ℕ → ConnectionId
 cid n = cidNew (n ∷ [])
@@ -67,3 +69,23 @@ queues = (refl, refl)
 -- as the promises say
 pub concluded : (issues state told ≡ counted 1 4) × (sourceSeqs (calls state told) ≡ remaining (0 ∷ []) (history state told))
 concluded = (without-gap state begins told, table-is-history state begins told)
+
+-- ---- retired destination sequences [10]
+
+-- the published call of each call of the rules
+abbrev published : List C.Call → List CodeCall
+published cs = map (λ (c : C.Call). complete c .call) cs
+
+-- the long run is answered as on the rules, and after it none is below, as the promise says: the largest is 10, and 10 and 11 are left
+pub long-answered : map (λ (e : Event). refusalIn (e .returned)) (history state (published long)) ≡ answers
+long-answered = refl
+
+pub long-left : (map seqOf (live (calls state (published long) .dcids)) ≡ 10 ∷ 11 ∷ []) × (calls state (published long) .«largest_peer_retire_prior_to» ≡ 10)
+long-left = (refl, refl)
+
+pub long-concluded : noneBelow (calls state (published long)) ≡ true
+long-concluded = none-below state begins (published long) [] refl
+
+-- a later set_initial_dcid breaks it
+pub late-below : noneBelow (calls state (published late)) ≡ false
+late-below = refl

@@ -7,38 +7,41 @@ use mathlib.Core.Option.{Option, none, some}
 use native.Mathlib.Omega.{arith}
 use lib.Dec.{eqb, leb}
 use lib.ListN.{length}
-use borrow.Author.Tests.{ne-eqb}
-use Rattle.lists.specs.Defs.{given, present, maybe, any, keep, has}
+use borrow.Author.Tests.{ne-eqb, not-true}
+use Rattle.lists.specs.Defs.{given, present, maybe, any, all, keep, has}
 use Rattle.lists.specs.Bools.{and-both}
 use Rattle.values.specs.Limits.{queueSlots}
 use Rattle.values.specs.Cid.{idFormed}
 use Rattle.values.specs.Token.{tokenFormed, tokenView}
 use Rattle.values.specs.declared.cid.ConnectionId.{ConnectionId}
 use Rattle.values.specs.Answers.{countedAt, flaggedAt, numberedAt}
-use Rattle.ids_rules.specs.Values.{Item, hasSeq}
+use Rattle.ids_rules.specs.Values.{Item, seqOf, hasSeq}
 use Rattle.ids_rules.specs.View.{View, Out, Answer, Nothing, refused, accepted}
 use Rattle.ids_rules.specs.Steps.{fresh, zeroView, freshFormed, freshCall}
 use Rattle.ids_rules.specs.Well.{well}
 use Rattle.ids_rules.specs.Calls.{Query, GetScid, GetDcid, FindScid, UnusedScids, UnusedDcids, LowestUnusedDcidSeq, NextScidToAdvertise, NextDcidToRetire, CreateNewConnectionIdFrame, NeedSendCidControlFrames, ZeroLengthScid, ZeroLengthDcid, ScidCount, ScidAt, DcidCount, DcidAt}
 use Rattle.ids_rules.specs.Calls.{Call, queryFormed, callFormed, step, apply, after, run}
-use Rattle.ids_rules.specs.Ends.{AddScidEnds, refuses, raises, issues as issues-one, RetireScidEnds, unissued, only, absent, out, frees, AddDcidEnds, rejects, again, late4, late, lowers, renews, adds, add-scid-ends, retire-scid-ends, add-dcid-ends}
-use Rattle.ids_rules.specs.Laws.{decided}
+use Rattle.ids_rules.specs.Ends.{AddScidEnds, refuses, raises, issues as issues-one, RetireScidEnds, unissued, only, absent, out, frees, AddDcidEnds, rejects, again, waits, late4, late, lowers, renews, adds, add-scid-ends, retire-scid-ends, add-dcid-ends}
+use Rattle.ids_rules.specs.Laws.{decided, or-neither}
 use Rattle.ids_rules.specs.Once.{reply-quiet}
-use Rattle.ids_rules.specs.Promise.{Starts, starts, issuedBy, counted, sequences}
+use Rattle.ids_rules.specs.Below.{never-early, first-early}
+use Rattle.ids_rules.specs.Promise.{Starts, starts, issuedBy, counted, sequences, neverAfter}
 use Rattle.ids_rules.specs.Promised.{promised}
+use Rattle.tables.specs.Table.{live, atLeast}
 use Rattle.ids_state.specs.Formed.{wellFormed}
 use Rattle.ids_state.specs.declared.state.Ids.{Ids}
-use Rattle.ids.specs.Reading.{view, idsOf, tokenOf, pathOf, partsOf, Sought, Fields, pathFormed, foundAt, frameAt, foundAnswerOf, frameOf, doneOf, issuedOf, freedOf, retiredOf, countedOf, flaggedOf, numberedOf, itemAnswerOf, checked}
+use Rattle.ids.specs.Reading.{itemView, view, idsOf, tokenOf, pathOf, partsOf, Sought, Fields, pathFormed, foundAt, frameAt, foundAnswerOf, frameOf, doneOf, issuedOf, freedOf, retiredOf, countedOf, flaggedOf, numberedOf, itemAnswerOf, checked}
 use Rattle.ids.specs.Reading.{itemAt, doneCall, issuedCall, freedCall, retiredCall}
 use Rattle.ids.specs.ReadingLaws.{view-of, view-is}
 use Rattle.ids.specs.WellLaws.{view-well, state-well, step-applies}
 use Rattle.ids.specs.Runs.{CodeCall, SetInitialDcid, SetScidLimit, AddScid, RetireScid, AddDcid, MarkScidUsed, MarkDcidUsed, MarkScidToAdvertise, MarkDcidToRetire, Reads, started}
 use Rattle.ids.specs.Runs.{Done, Issued, Freed, Retired, ACount, AFlag, ANumber, AnItem, AFound, AFrame}
 use Rattle.ids.specs.Runs.{Shape, ADone, AnIssue, AFreed, ARetired, Counts, Flags, Numbers, Items, Finds, Frames, Result}
-use Rattle.ids.specs.Runs.{argsFormed, asked, result, stateIn, refusalIn, made, refusal, calls, viewCall, viewCalls, askedShape, shape, replied, shaped, resultAs, refusedAt, issuedIn, issues, history, retires, logged, remaining}
-use Rattle.ids.specs.Runs.{Applies, Published, Complete, Malformed, OnlyRefuses, LeavesNothing, KeepsWell, FreshOne, FreshWell, RunsWell, NeverOne, IsRun, IsStart, WithoutGap, TableIsHistory, NeverReturns, Promises}
+use Rattle.ids.specs.Runs.{argsFormed, asked, result, stateIn, refusalIn, made, refusal, calls, viewCall, viewCalls, askedShape, shape, replied, shaped, resultAs, refusedAt, issuedIn, issues, history, retires, logged, remaining, setsInitial, takesFrame, noneBelow}
+use Rattle.ids.specs.Runs.{Applies, Published, Complete, Malformed, OnlyRefuses, LeavesNothing, KeepsWell, FreshOne, FreshWell, RunsWell, NeverOne, IsRun, IsStart, WithoutGap, TableIsHistory, NeverReturns, NoneBelow, NoneBelowEarly, Promises}
 use Rattle.ids_rules.specs.Calls as C
 use Rattle.ids_rules.specs.Promise as P
+use Rattle.tables.specs.declared.items.Item as I
 
 -- ---- the contract is `apply`
 
@@ -270,15 +273,15 @@ given-one cid none (some p) = and-true (idFormed cid && true) ∙ and-true (idFo
 given-one cid (some t) none = and-true (idFormed cid && true) ∙ and-true (idFormed cid)
 given-one cid (some t) (some p) = and-true (idFormed cid && true) ∙ and-true (idFormed cid)
 
-read-token : (o : Option (List ℕ)) → tokenView (tokenOf o) ≡ o
+pub read-token : (o : Option (List ℕ)) → tokenView (tokenOf o) ≡ o
 read-token none = refl
 read-token (some t) = refl
 
-read-path : (o : Option ℕ) → given (present o) (pathOf o) ≡ o
+pub read-path : (o : Option ℕ) → given (present o) (pathOf o) ≡ o
 read-path none = refl
 read-path (some p) = refl
 
-pub complete : Complete
+abbrev pub complete : Complete
 complete (C.SetInitialDcid cid token path) = record {
   call = SetInitialDcid cid (tokenOf token) (present path) (pathOf path);
   is = ap₂ (λ (t : Option (List ℕ)) (p : Option ℕ). C.SetInitialDcid cid t p) (read-token token) (read-path path);
@@ -363,6 +366,7 @@ retire-quiet (frees x r a e l) = refl
 dcid-quiet : {x : Item} {b : ℕ} {v : View} {o : Out} → AddDcidEnds x b v o → Quiet o
 dcid-quiet (rejects n k) = refl
 dcid-quiet (again e) = refl
+dcid-quiet (waits n k q) = refl
 dcid-quiet (late4 n k l) = refl
 dcid-quiet (late n k l t) = refl
 dcid-quiet (lowers m k n l q) = refl
@@ -489,6 +493,49 @@ never-returns s f cs ds n i o =
     (ap (λ (l : List ℕ). has n (0 ∷ l)) (sym (issues-is s cs w)) ∙ i)
     (ap (λ (v : View). has n (sequences v)) (sym (is-run s cs w)) ∙ o)
 
+-- ---- retired destination sequences
+
+-- what no call passes, none of the view's passes
+none-view : (p : Call → Bool) (cs : List CodeCall) → any (λ (c : CodeCall). p (viewCall c)) cs ≡ false → any p (viewCalls cs) ≡ false
+none-view p [] e = refl
+none-view p (c ∷ cs) e = let w = or-neither (p (viewCall c)) _ e in test (argsFormed c) (w .0) (none-view p cs (w .1))
+  where
+    test : (b : Bool) → p (viewCall c) ≡ false → any p (viewCalls cs) ≡ false → any p (map viewCall (cond b (c ∷ keep argsFormed cs) (keep argsFormed cs))) ≡ false
+    test true n i = rw n i
+    test false n i = i
+
+early-view : (cs : List CodeCall) → neverAfter setsInitial takesFrame cs ≡ true → neverAfter P.setsInitial P.takesFrame (viewCalls cs) ≡ true
+early-view [] e = refl
+early-view (c ∷ cs) e = test (argsFormed c) (takesFrame c) refl e (early-view cs)
+  where
+    quiet : not (any setsInitial cs) ≡ true → any P.setsInitial (viewCalls cs) ≡ false
+    quiet e = none-view P.setsInitial cs (not-true (any setsInitial cs) e)
+
+    test : (b f : Bool) → takesFrame c ≡ f → cond f (not (any setsInitial cs)) (neverAfter setsInitial takesFrame cs) ≡ true
+        → (neverAfter setsInitial takesFrame cs ≡ true → neverAfter P.setsInitial P.takesFrame (viewCalls cs) ≡ true)
+        → neverAfter P.setsInitial P.takesFrame (map viewCall (cond b (c ∷ keep argsFormed cs) (keep argsFormed cs))) ≡ true
+    test true true q e i = rw (q, quiet e)
+    test true false q e i = rw q (i e)
+    test false true q e i = never-early P.setsInitial P.takesFrame (viewCalls cs) (quiet e)
+    test false false q e i = i e
+
+-- the fields, read as lists
+none-below-is : (s : Ids) → noneBelow s ≡ P.noneBelow (view s)
+none-below-is s = each (live (s .dcids))
+  where
+    each : (l : List I.Item) → all (atLeast (s .«largest_peer_retire_prior_to»)) l ≡ all (leb (s .«largest_peer_retire_prior_to»)) (map seqOf (map itemView l))
+    each [] = refl
+    each (x ∷ l) = ap (λ (b : Bool). leb (s .«largest_peer_retire_prior_to») (x .seq) && b) (each l)
+
+pub none-below-early : NoneBelowEarly
+none-below-early s f cs ds n =
+    none-below-is (calls s cs) ∙ ap P.noneBelow (is-run s cs (fresh-well s f))
+    ∙ promised .noneBelowEarly (view s) (is-start s f) (viewCalls cs) (viewCalls ds)
+    (subst (λ (l : List Call). neverAfter P.setsInitial P.takesFrame l ≡ true) (more cs ds) (early-view (cs ++ ds) n))
+
+pub none-below : NoneBelow
+none-below s f cs ds i = none-below-early s f cs ds (first-early setsInitial takesFrame (cs ++ ds) i)
+
 -- ---- all of it
 
 pub held : Promises
@@ -508,4 +555,6 @@ held = record {
   withoutGap = without-gap;
   tableIsHistory = table-is-history;
   neverReturns = never-returns;
+  noneBelow = none-below;
+  noneBelowEarly = none-below-early;
 }

@@ -126,7 +126,8 @@ pub fn add_scid_at(
     }
 }
 
-// A NEW_CONNECTION_ID frame: the answer is what it retired of the IDs in use.
+// A NEW_CONNECTION_ID frame: the answer is what it retired of the IDs in use. One below an earlier Retire Prior To gives no ID: it is queued to be retired, or
+// waits there already and changes nothing [10].
 pub fn add_dcid_at(
     s: Ids,
     cid: ConnectionId,

@@ -46,7 +46,7 @@ pub fn no_pairs(d: Table, q: Queue, largest: u64, n: u8) -> RetiredParts
     }
 }
 
-// A sequence below the largest Retire Prior To is queued at once.
+// A sequence below the largest Retire Prior To, and not queued yet, is queued at once.
 fn late_step(t: Table, q: Queue, largest: u64, dcid_limit: u64, seq: u64) -> RetiredParts
     requires { ⌜ FromState t q largest «dcid_limit» ⌝ }
     ensures { λ r. ⌜ Gives t q largest «dcid_limit» r (S.queueLate seq) ⌝ }
@@ -124,11 +124,13 @@ fn new_step(t: Table, q: Queue, largest: u64, dcid_limit: u64, x: Item, b: u64) 
     if x.seq < b {
         return no_pairs(t, q, largest, PROTOCOL_VIOLATION);
     }
-    // 19.15: a sequence below an earlier Retire Prior To is retired at once, unless it already was.
+    // 19.15: a sequence below an earlier Retire Prior To is retired at once, unless it waits for that already: then nothing happens [10].
     let seq = x.seq;
-    let has = tables::queue_has(q, seq);
-    let late = (seq < largest) & !has;
-    if late {
+    if seq < largest {
+        let waits = tables::queue_has(q, seq);
+        if waits {
+            return no_pairs(t, q, largest, ACCEPTED);
+        }
         return late_step(t, q, largest, dcid_limit, seq);
     }
     // 19.15: a Retire Prior To that doesn't raise the largest is ignored.

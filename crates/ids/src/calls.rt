@@ -207,7 +207,8 @@ pub fn add_scid(
     IssuedOut { ids: u, answer: d }
 }
 
-// A NEW_CONNECTION_ID frame: the answer is what it retired of the IDs in use.
+// A NEW_CONNECTION_ID frame: the answer is what it retired of the IDs in use. One below an earlier Retire Prior To gives no ID: it is queued to be retired, or
+// waits there already and changes nothing [10].
 pub fn add_dcid(
     s: Ids,
     cid: ConnectionId,

@@ -234,11 +234,29 @@ addDcidRows =
     ∷ stays (holds (item 1 ∷ []) 0 []) (peer 2 3) 4
     ∷ stays (holds (item 1 ∷ []) 9 (old 128)) (peer 2 3) 4
     ∷ gives (holds (item 1 ∷ []) 0 []) (peer 3 3) (Retired []) (holds (item 3 ∷ []) 3 (1 ∷ []))
-    -- late: below the largest, not equal to it, and not queued; before full
+    -- late: below the largest, not equal to it, and not queued, whatever else is; before full
     ∷ gives (holds (item 9 ∷ []) 9 []) (peer 8 0) (Retired []) (holds (item 9 ∷ []) 9 (8 ∷ []))
+    ∷ gives (holds (item 9 ∷ []) 9 (7 ∷ 9 ∷ [])) (peer 8 0) (Retired []) (holds (item 9 ∷ []) 9 (7 ∷ 9 ∷ 8 ∷ []))
     ∷ gives (holds (item 9 ∷ []) 8 []) (peer 8 0) (Retired []) (holds (item 9 ∷ item 8 ∷ []) 8 [])
-    ∷ gives (holds (item 9 ∷ []) 9 (8 ∷ [])) (peer 8 0) (Retired []) (holds (item 9 ∷ item 8 ∷ []) 9 (8 ∷ []))
     ∷ gives (holds (item 9 ∷ item 10 ∷ item 11 ∷ []) 9 []) (peer 8 0) (Retired []) (holds (item 9 ∷ item 10 ∷ item 11 ∷ []) 9 (8 ∷ []))
+    -- late and queued [10], at any place of the queue and more than once, with Retire Prior To up to the sequence, with another ID or token than it came with: success, nothing changed;
+    -- before 6, before 4 for too many, before full
+    ∷ says (holds (item 9 ∷ []) 9 (8 ∷ [])) (peer 8 0) (Retired [])
+    ∷ says (holds (item 9 ∷ []) 9 (7 ∷ 8 ∷ 7 ∷ 8 ∷ [])) (peer 8 8) (Retired [])
+    ∷ says (holds (item 9 ∷ []) 9 (7 ∷ 9 ∷ 8 ∷ [])) (AddDcid (cid 77) 8 otherToken 0) (Retired [])
+    ∷ says (holds (item 9 ∷ []) 9 (old 127 ++ (8 ∷ []))) (peer 8 0) (Retired [])
+    ∷ says (holds (item 9 ∷ []) 9 (old 8 ++ (8 ∷ []))) (peer 8 0) (Retired [])
+    ∷ says (holds (item 9 ∷ item 10 ∷ item 11 ∷ []) 9 (8 ∷ [])) (peer 8 0) (Retired [])
+    -- after 4 for a zero-length ID, for an ID that is held, for Retire Prior To above the sequence
+    ∷ stays (withZeroLengthDcid true (holds (item 9 ∷ []) 9 (8 ∷ []))) (peer 8 0) 4
+    ∷ stays (holds (item 9 ∷ []) 9 (8 ∷ [])) (AddDcid (cid 9) 8 token 0) 4
+    ∷ stays (holds (item 9 ∷ []) 9 (8 ∷ [])) (peer 8 9) 4
+    -- queued and not late: equal to the largest, above it, and above one that the frame raises: added
+    ∷ gives (holds (item 9 ∷ []) 8 (8 ∷ [])) (peer 8 0) (Retired []) (holds (item 9 ∷ item 8 ∷ []) 8 (8 ∷ []))
+    ∷ gives (holds (item 9 ∷ []) 7 (8 ∷ [])) (peer 8 0) (Retired []) (holds (item 9 ∷ item 8 ∷ []) 7 (8 ∷ []))
+    ∷ gives (holds (item 1 ∷ item 9 ∷ []) 0 (8 ∷ [])) (peer 8 8) (Retired []) (holds (item 9 ∷ item 8 ∷ []) 8 (8 ∷ 1 ∷ []))
+    -- what is moved is below the frame's Retire Prior To: one less is, equal is not
+    ∷ gives (holds (item 7 ∷ item 8 ∷ item 6 ∷ []) 0 []) (peer 9 8) (Retired []) (holds (item 8 ∷ item 9 ∷ []) 8 (7 ∷ 6 ∷ []))
     -- late: 6 at 128, before 4 above 4 x limit, with the sequence queued
     ∷ stays (holds (item 9 ∷ []) 9 (old 128)) (peer 8 0) 6
     ∷ leaves (holds (item 9 ∷ []) 9 (old 127)) (peer 8 0) 4 (holds (item 9 ∷ []) 9 (old 127 ++ (8 ∷ [])))
@@ -263,6 +281,7 @@ addDcidRows =
     -- pairs in table order, of those in use alone
     ∷ gives (holds (busy 3 6 ∷ item 2 ∷ busy 1 5 ∷ []) 0 (7 ∷ [])) (peer 9 9) (Retired (record { seq = 3; path = 6 } ∷ record { seq = 1; path = 5 } ∷ [])) (holds (item 9 ∷ []) 9 (7 ∷ 3 ∷ 2 ∷ 1 ∷ []))
     -- the largest numbers
+    ∷ says (holds [] (2 ^ 64 - 1) ((2 ^ 64 - 2) ∷ [])) (peer (2 ^ 64 - 2) 0) (Retired [])
     ∷ gives (holds (busy 1 5 ∷ []) 0 []) (peer (2 ^ 64 - 1) (2 ^ 64 - 1)) (Retired (record { seq = 1; path = 5 } ∷ [])) (holds (item (2 ^ 64 - 1) ∷ []) (2 ^ 64 - 1) (1 ∷ []))
     ∷ []
 

@@ -99,7 +99,9 @@ queued b v = v .dcidsToRetire ++ map seqOf (keep (below b) (v .dcids))
 pub data AddDcidEnds (x : Item) (b : ℕ) (v : View) : Out → Type 0 where
   rejects : (n : ℕ) → 2 ≤ n → AddDcidEnds x b v (refused n v)
   again : any (λ (y : Item). clashes y x) (v .dcids) ≡ true → AddDcidEnds x b v (accepted (Retired []) v)
-  -- a late sequence is queued: too many, or success
+  -- a late sequence waits in the queue already
+  waits : New x b v → x .seq < v .largestPeerRetirePriorTo → has (x .seq) (v .dcidsToRetire) ≡ true → AddDcidEnds x b v (accepted (Retired []) v)
+  -- it is queued: too many, or success
   late4 : New x b v → x .seq < v .largestPeerRetirePriorTo → length (v .dcidsToRetire) < queueSlots → AddDcidEnds x b v (refused 4 (withDcidsToRetire (v .dcidsToRetire ++ (x .seq ∷ [])) v))
   late : New x b v → x .seq < v .largestPeerRetirePriorTo → length (v .dcidsToRetire) < queueSlots → tooMany (withDcidsToRetire (v .dcidsToRetire ++ (x .seq ∷ [])) v) ≡ false
       → AddDcidEnds x b v (accepted (Retired []) (withDcidsToRetire (v .dcidsToRetire ++ (x .seq ∷ [])) v))
@@ -107,8 +109,8 @@ pub data AddDcidEnds (x : Item) (b : ℕ) (v : View) : Out → Type 0 where
   lowers : (n : ℕ) → Partial n → New x b v → v .largestPeerRetirePriorTo < b → length (queued b v) ≤ queueSlots → AddDcidEnds x b v (refused n (lowered b v))
   renews : New x b v → v .largestPeerRetirePriorTo < b → length (queued b v) ≤ queueSlots → length (keep (from b) (v .dcids)) < capacityFor (v .dcidLimit) → tooMany (lowered b v) ≡ false
       → AddDcidEnds x b v (accepted (Retired (pairs (keep (below b) (v .dcids)))) (withDcids (keep (from b) (v .dcids) ++ (x ∷ [])) (lowered b v)))
-  -- the ID is added; if it is late, it was queued before
-  adds : New x b v → b ≤ v .largestPeerRetirePriorTo → (x .seq < v .largestPeerRetirePriorTo → has (x .seq) (v .dcidsToRetire) ≡ true) → length (v .dcids) < capacityFor (v .dcidLimit)
+  -- the ID is added, and is not late
+  adds : New x b v → b ≤ v .largestPeerRetirePriorTo → v .largestPeerRetirePriorTo ≤ x .seq → length (v .dcids) < capacityFor (v .dcidLimit)
       → AddDcidEnds x b v (accepted (Retired []) (withDcids (v .dcids ++ (x ∷ [])) v))
 
 module _ (x : Item) (b : ℕ) (v : View) where
@@ -116,7 +118,9 @@ module _ (x : Item) (b : ℕ) (v : View) where
   new-ends c =
       decided E (ltb (x .seq) b) (λ e. rejects 4 (omega arith)) (λ r.
       let n : New x b v = record { free = c; fits = ltb-false (x .seq) b r } in
-      test n (ltb (x .seq) (v .largestPeerRetirePriorTo)) (has (x .seq) (v .dcidsToRetire)) refl refl)
+      decided E (ltb (x .seq) (v .largestPeerRetirePriorTo))
+      (λ e. let k = ltb-true (x .seq) (v .largestPeerRetirePriorTo) e in decided E (has (x .seq) (v .dcidsToRetire)) (λ q. waits n k q) (λ q. late-ends n k))
+      (λ e. rest n (ltb-false (x .seq) (v .largestPeerRetirePriorTo) e)))
     where
       E : Out → Type 0
       E = AddDcidEnds x b v
@@ -127,7 +131,7 @@ module _ (x : Item) (b : ℕ) (v : View) where
           let m = leb-false queueSlots (length (v .dcidsToRetire)) f in
           decided E (tooMany (withDcidsToRetire (v .dcidsToRetire ++ (x .seq ∷ [])) v)) (λ e. late4 n k m) (λ e. late n k m e))
 
-      rest : New x b v → (x .seq < v .largestPeerRetirePriorTo → has (x .seq) (v .dcidsToRetire) ≡ true) → E (cond (ltb (v .largestPeerRetirePriorTo) b) (raise x b v) (append x [] v))
+      rest : New x b v → v .largestPeerRetirePriorTo ≤ x .seq → E (cond (ltb (v .largestPeerRetirePriorTo) b) (raise x b v) (append x [] v))
       rest n h =
           decided E (ltb (v .largestPeerRetirePriorTo) b)
           (λ e. let k = ltb-true (v .largestPeerRetirePriorTo) b e in
@@ -138,11 +142,6 @@ module _ (x : Item) (b : ℕ) (v : View) where
           (λ e. renews n k m (leb-false (capacityFor (v .dcidLimit)) (length (keep (from b) (v .dcids))) e) t))))
           (λ e. decided E (leb (capacityFor (v .dcidLimit)) (length (v .dcids))) (λ e. rejects 3 (omega arith))
           (λ f. adds n (ltb-false (v .largestPeerRetirePriorTo) b e) h (leb-false (capacityFor (v .dcidLimit)) (length (v .dcids)) f)))
-
-      test : New x b v → (t u : Bool) → ltb (x .seq) (v .largestPeerRetirePriorTo) ≡ t → has (x .seq) (v .dcidsToRetire) ≡ u → E (cond (t && not u) (queueLate (x .seq) v) (cond (ltb (v .largestPeerRetirePriorTo) b) (raise x b v) (append x [] v)))
-      test n true true e q = rest n (λ k. q)
-      test n true false e q = late-ends n (ltb-true (x .seq) (v .largestPeerRetirePriorTo) e)
-      test n false u e q = rest n (λ k. absurd (omega (arith, ltb-false (x .seq) (v .largestPeerRetirePriorTo) e)))
 
 pub add-dcid-ends : (cid : ConnectionId) (seq : ℕ) (token : List ℕ) (b : ℕ) (v : View)
     → AddDcidEnds (record { cid = cid; seq = seq; token = some token; path = none }) b v (addDcid cid seq token b v)

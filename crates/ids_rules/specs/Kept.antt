@@ -18,7 +18,7 @@ use Rattle.ids_rules.specs.Values.{Item, onPath, seqOf, hasSeq, from, cl
 use Rattle.ids_rules.specs.View.{View, Out}
 use Rattle.ids_rules.specs.With.{withScids, withDcids, withRetirePriorTo, withDcidsToRetire}
 use Rattle.ids_rules.specs.Steps.{lowestFrom, marked, sole, without, lowered, used}
-use Rattle.ids_rules.specs.Ends.{Raised, spare, lifts, AddScidEnds, refuses, raises, issues, RetireScidEnds, unissued, only, absent, out, frees, AddDcidEnds, rejects, again, late4, late, lowers, renews, adds, queued, add-scid-ends, retire-scid-ends, add-dcid-ends}
+use Rattle.ids_rules.specs.Ends.{Raised, spare, lifts, AddScidEnds, refuses, raises, issues, RetireScidEnds, unissued, only, absent, out, frees, AddDcidEnds, rejects, again, waits, late4, late, lowers, renews, adds, queued, add-scid-ends, retire-scid-ends, add-dcid-ends}
 use Rattle.ids_rules.specs.Well.{risingWithin, distinct, limits, source, destination, queues, well}
 use Rattle.ids_rules.specs.Calls.{Call, SetInitialDcid, SetScidLimit, AddScid, RetireScid, AddDcid, MarkScidUsed, MarkDcidUsed, MarkScidToAdvertise, MarkDcidToRetire, Ask, callFormed, step}
 use Rattle.ids_rules.specs.Laws.{decided, both-and, or-neither, every-is, is-every, all-append, all-keep, all-moved, any-moved, none-keep, none-append}
@@ -316,6 +316,7 @@ lowered-well b v k h = record {
 dcid-well : (x : Item) (b : ℕ) (v : View) {o : Out} → AddDcidEnds x b v o → itemFormed x ≡ true → Well v → Well (o .view)
 dcid-well x b v (rejects n k) f h = h
 dcid-well x b v (again e) f h = h
+dcid-well x b v (waits n k q) f h = h
 dcid-well x b v (late4 n k l) f h = queue-well _ v (simp length-append (omega arith)) h
 dcid-well x b v (late n k l t) f h = queue-well _ v (simp length-append (omega arith)) h
 dcid-well x b v (lowers m k n l q) f h = lowered-well b v q h

@@ -15,6 +15,8 @@ pub mod Kept
 pub mod Refuses
 pub mod Never
 pub mod Once
+pub mod Below
+pub mod BelowExample
 pub mod Promised
 pub mod Rfc
 pub mod RfcProof

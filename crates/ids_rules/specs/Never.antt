@@ -15,7 +15,7 @@ use Rattle.values.specs.Cid.{idFormed}
 use Rattle.ids_rules.specs.Values.{Item, hasSeq}
 use Rattle.ids_rules.specs.View.{View, Nothing, Out, refused, accepted}
 use Rattle.ids_rules.specs.Steps.{fresh, zeroView}
-use Rattle.ids_rules.specs.Ends.{AddScidEnds, refuses, raises, issues, RetireScidEnds, unissued, only, absent, out, frees, AddDcidEnds, rejects, again, late4, late, lowers, renews, adds, add-scid-ends, retire-scid-ends, add-dcid-ends}
+use Rattle.ids_rules.specs.Ends.{AddScidEnds, refuses, raises, issues, RetireScidEnds, unissued, only, absent, out, frees, AddDcidEnds, rejects, again, waits, late4, late, lowers, renews, adds, add-scid-ends, retire-scid-ends, add-dcid-ends}
 use Rattle.ids_rules.specs.Well.{well}
 use Rattle.ids_rules.specs.Calls.{Call, SetInitialDcid, SetScidLimit, AddScid, RetireScid, AddDcid, MarkScidUsed, MarkDcidUsed, MarkScidToAdvertise, MarkDcidToRetire, Ask}
 use Rattle.ids_rules.specs.Calls.{Query, GetScid, GetDcid, FindScid, UnusedScids, UnusedDcids, LowestUnusedDcidSeq, NextScidToAdvertise, NextDcidToRetire, CreateNewConnectionIdFrame, NeedSendCidControlFrames, ZeroLengthScid, ZeroLengthDcid, ScidCount, ScidAt, DcidCount, DcidAt}
@@ -74,6 +74,7 @@ retire-other (frees x r a e l) = refl
 dcid-other : {x : Item} {b : ℕ} {v : View} {o : Out} → AddDcidEnds x b v o → Other o
 dcid-other (rejects n k) = no-one n k
 dcid-other (again e) = refl
+dcid-other (waits n k q) = refl
 dcid-other (late4 n k l) = refl
 dcid-other (late n k l t) = refl
 dcid-other (lowers m k n l q) = no-one m (k .low)

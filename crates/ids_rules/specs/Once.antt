@@ -16,7 +16,7 @@ use Rattle.values.specs.Cid.{sameId}
 use Rattle.ids_rules.specs.Values.{Item, seqOf, hasSeq}
 use Rattle.ids_rules.specs.View.{View, Answer, Nothing, Out, refused, accepted}
 use Rattle.ids_rules.specs.Steps.{fresh, freshFormed, zeroView, sole, without, used}
-use Rattle.ids_rules.specs.Ends.{AddScidEnds, refuses, raises, issues as issues-one, RetireScidEnds, unissued, only, absent, out as taken-out, frees, AddDcidEnds, rejects, again, late4, late, lowers, renews, adds, add-scid-ends, retire-scid-ends, add-dcid-ends}
+use Rattle.ids_rules.specs.Ends.{AddScidEnds, refuses, raises, issues as issues-one, RetireScidEnds, unissued, only, absent, out as taken-out, frees, AddDcidEnds, rejects, again, waits, late4, late, lowers, renews, adds, add-scid-ends, retire-scid-ends, add-dcid-ends}
 use Rattle.ids_rules.specs.Well.{well}
 use Rattle.ids_rules.specs.Calls.{Call, SetInitialDcid, SetScidLimit, AddScid, RetireScid, AddDcid, MarkScidUsed, MarkDcidUsed, MarkScidToAdvertise, MarkDcidToRetire, Ask}
 use Rattle.ids_rules.specs.Calls.{Query, GetScid, GetDcid, FindScid, UnusedScids, UnusedDcids, LowestUnusedDcidSeq, NextScidToAdvertise, NextDcidToRetire, CreateNewConnectionIdFrame, NeedSendCidControlFrames, ZeroLengthScid, ZeroLengthDcid, ScidCount, ScidAt, DcidCount, DcidAt}
@@ -28,11 +28,11 @@ use Rattle.ids_rules.specs.Promise.{Starts, starts, Event, event, histor
 
 -- ---- sequences of a list of items
 
-has-map : (s : ℕ) (l : List Item) → has s (map seqOf l) ≡ any (hasSeq s) l
+pub has-map : (s : ℕ) (l : List Item) → has s (map seqOf l) ≡ any (hasSeq s) l
 has-map s [] = refl
 has-map s (x ∷ l) = ap (λ (b : Bool). eqb s (x .seq) || b) (has-map s l)
 
-map-more : (l : List Item) (x : Item) → map seqOf (l ++ (x ∷ [])) ≡ map seqOf l ++ (x .seq ∷ [])
+pub map-more : (l : List Item) (x : Item) → map seqOf (l ++ (x ∷ [])) ≡ map seqOf l ++ (x .seq ∷ [])
 map-more [] x = refl
 map-more (y ∷ l) x = ap (λ (m : List ℕ). y .seq ∷ m) (map-more l x)
 
@@ -111,6 +111,7 @@ module _ (v : View) (s : ℕ) where
 dcid-traced : (c : Call) {x : Item} {b : ℕ} {v : View} {o : Out} → retires c ≡ none → AddDcidEnds x b v o → Traced v c o
 dcid-traced c {v = v} e (rejects n k) = still v c _ e refl refl refl
 dcid-traced c {v = v} e (again k) = still v c _ e refl refl refl
+dcid-traced c {v = v} e (waits n k q) = still v c _ e refl refl refl
 dcid-traced c {v = v} e (late4 n k l) = still v c _ e refl refl refl
 dcid-traced c {v = v} e (late n k l t) = still v c _ e refl refl refl
 dcid-traced c {v = v} e (lowers m k n l q) = still v c _ e refl refl refl

@@ -8,11 +8,11 @@
 use Prim.Native.Nat.{ℕ, zero, suc, _+_}
 use mathlib.Core.Path.{_≡_}
 use mathlib.Core.List.{List, [], _∷_, _++_, map}
-use mathlib.Core.Bool.{true, false, cond, not, _&&_, _||_}
+use mathlib.Core.Bool.{Bool, true, false, cond, not, _&&_, _||_}
 use mathlib.Core.Option.{Option, none, some}
-use lib.ListN.{length}
+use lib.ListN.{length, drop}
 use lib.Dec.{eqb, leb}
-use Rattle.lists.specs.Defs.{maybe, keep, has}
+use Rattle.lists.specs.Defs.{maybe, keep, any, all, has}
 use Rattle.values.specs.declared.cid.ConnectionId.{ConnectionId}
 use Rattle.ids_rules.specs.Values.{seqOf}
 use Rattle.ids_rules.specs.View.{View, Out, Answer, Nothing, Issued, Freed, Retired, Whole, Maybe, Found, Number, Perhaps, Flag, Frame}
@@ -135,6 +135,55 @@ abbrev pub NeverReturns : Type 0
 NeverReturns = (v : View) → Starts v → (cs ds : List Call) (s : ℕ) → has s (0 ∷ issues (history v cs)) ≡ true
     → has s (sequences (run v cs)) ≡ false → has s (sequences (run v (cs ++ ds))) ≡ false
 
+-- ---- a retired destination sequence stays out [10]
+
+-- the call is set_initial_dcid
+abbrev pub setsInitial : Call → Bool
+setsInitial (SetInitialDcid cid token path) = true
+setsInitial (SetScidLimit n) = false
+setsInitial (AddScid cid token advertise path retireIfNeeded) = false
+setsInitial (RetireScid s packet) = false
+setsInitial (AddDcid cid s token b) = false
+setsInitial (MarkScidUsed s p) = false
+setsInitial (MarkDcidUsed s p) = false
+setsInitial (MarkScidToAdvertise s on) = false
+setsInitial (MarkDcidToRetire s on) = false
+setsInitial (Ask q) = false
+
+-- the call is add_dcid, which takes a NEW_CONNECTION_ID frame
+abbrev pub takesFrame : Call → Bool
+takesFrame (SetInitialDcid cid token path) = false
+takesFrame (SetScidLimit n) = false
+takesFrame (AddScid cid token advertise path retireIfNeeded) = false
+takesFrame (RetireScid s packet) = false
+takesFrame (AddDcid cid s token b) = true
+takesFrame (MarkScidUsed s p) = false
+takesFrame (MarkDcidUsed s p) = false
+takesFrame (MarkScidToAdvertise s on) = false
+takesFrame (MarkDcidToRetire s on) = false
+takesFrame (Ask q) = false
+
+-- the sequences of the destination table
+abbrev pub destinations : View → List ℕ
+destinations v = map seqOf (v .dcids)
+
+-- none of them is below the largest Retire Prior To of the peer
+abbrev pub noneBelow : View → Bool
+noneBelow v = all (leb (v .largestPeerRetirePriorTo)) (destinations v)
+
+-- so it is over any calls from a fresh state, refused ones too, of which set_initial_dcid is at most the first: after any of them, cs, whatever comes then, ds
+abbrev pub NoneBelow : Type 0
+NoneBelow = (v : View) → Starts v → (cs ds : List Call) → any setsInitial (drop 1 (cs ++ ds)) ≡ false → noneBelow (run v cs) ≡ true
+
+-- nothing that passes p comes after what passes q
+abbrev pub neverAfter : {A : Type 0} → (A → Bool) → (A → Bool) → List A → Bool
+neverAfter p q [] = true
+neverAfter p q (c ∷ cs) = cond (q c) (not (any p cs)) (neverAfter p q cs)
+
+-- and more: set_initial_dcid may come as often as one likes before the first add_dcid, as a client calls it when the server has chosen its ID
+abbrev pub NoneBelowEarly : Type 0
+NoneBelowEarly = (v : View) → Starts v → (cs ds : List Call) → neverAfter setsInitial takesFrame (cs ++ ds) ≡ true → noneBelow (run v cs) ≡ true
+
 -- ---- all of it
 
 pub record Promises : Type 0 where
@@ -147,3 +196,5 @@ pub record Promises : Type 0 where
   pub withoutGap : WithoutGap
   pub tableIsHistory : TableIsHistory
   pub neverReturns : NeverReturns
+  pub noneBelow : NoneBelow
+  pub noneBelowEarly : NoneBelowEarly

@@ -3,6 +3,7 @@ use Rattle.ids_rules.specs.Promise.{Promises}
 use Rattle.ids_rules.specs.Refuses.{determined, refused-is-quiet, leaves-nothing}
 use Rattle.ids_rules.specs.Never.{fresh-well, keeps-well, never-one}
 use Rattle.ids_rules.specs.Once.{without-gap, table-is-history, never-returns}
+use Rattle.ids_rules.specs.Below.{none-below, none-below-early}
 
 pub promised : Promises
 promised = record {
@@ -15,4 +16,6 @@ promised = record {
   withoutGap = without-gap;
   tableIsHistory = table-is-history;
   neverReturns = never-returns;
+  noneBelow = none-below;
+  noneBelowEarly = none-below-early;
 }

@@ -11,7 +11,7 @@ use Rattle.values.specs.declared.cid.ConnectionId.{ConnectionId}
 use Rattle.values.specs.Limits.{queueSlots}
 use Rattle.ids_rules.specs.Values.{Item, hasSeq}
 use Rattle.ids_rules.specs.View.{View, Answer, Nothing, Out, refused, accepted}
-use Rattle.ids_rules.specs.Ends.{Partial, AddScidEnds, refuses, raises, issues, RetireScidEnds, unissued, only, absent, out, frees, AddDcidEnds, rejects, again, late4, late, lowers, renews, adds, add-scid-ends, retire-scid-ends, add-dcid-ends}
+use Rattle.ids_rules.specs.Ends.{Partial, AddScidEnds, refuses, raises, issues, RetireScidEnds, unissued, only, absent, out, frees, AddDcidEnds, rejects, again, waits, late4, late, lowers, renews, adds, add-scid-ends, retire-scid-ends, add-dcid-ends}
 use Rattle.ids_rules.specs.Well.{well}
 use Rattle.ids_rules.specs.Calls.{Call, SetInitialDcid, SetScidLimit, AddScid, RetireScid, AddDcid, MarkScidUsed, MarkDcidUsed, MarkScidToAdvertise, MarkDcidToRetire, Ask, callFormed, step, apply}
 use Rattle.ids_rules.specs.Calls.{Query, GetScid, GetDcid, FindScid, UnusedScids, UnusedDcids, LowestUnusedDcidSeq, NextScidToAdvertise, NextDcidToRetire, CreateNewConnectionIdFrame, NeedSendCidControlFrames, ZeroLengthScid, ZeroLengthDcid, ScidCount, ScidAt, DcidCount, DcidAt, Reply, reply}
@@ -55,6 +55,7 @@ retire-sober {v = v} (frees x r a e l) = fine v _ _
 dcid-sober : {x : Item} {b : ℕ} {v : View} {o : Out} → AddDcidEnds x b v o → Sober v o
 dcid-sober {v = v} (rejects n k) = unchanged v n
 dcid-sober {v = v} (again e) = fine v _ _
+dcid-sober {v = v} (waits n k q) = fine v _ _
 dcid-sober {v = v} (late4 n k l) = partly v 4 _ (omega arith)
 dcid-sober {v = v} (late n k l t) = fine v _ _
 dcid-sober {v = v} (lowers m k n l q) = partly v m _ k

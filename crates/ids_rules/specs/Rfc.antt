@@ -1,5 +1,5 @@
 -- RFC 9000, sections 5.1.1, 5.1.2, 9.5, 10.3.2, 19.15 and 19.16, as rules on the view before, what came, and what comes of it: which of them the calls
--- meet, which they meet but for a listed case, and where they differ. D1 to D23 and D37 to D39 are rows of docs/DIFFERENCES.md. The proofs are in
+-- meet, which they meet but for a listed case, and where they differ. D1 to D23, D37 to D39 and D44 are rows of docs/DIFFERENCES.md. The proofs are in
 -- RfcProof.antt.
 use Prim.Native.Nat.{ℕ, _+_, _*_, _≤_, _<_}
 use mathlib.Core.Path.{_≡_}
@@ -19,7 +19,7 @@ use Rattle.ids_rules.specs.Steps.{fresh, sole, without, lowestFrom}
 use Rattle.ids_rules.specs.Well.{well}
 use Rattle.ids_rules.specs.Calls.{Call, SetInitialDcid, SetScidLimit, AddScid, RetireScid, AddDcid, MarkScidUsed, MarkDcidUsed, MarkScidToAdvertise, MarkDcidToRetire, Ask, callFormed, apply, run}
 use Rattle.ids_rules.specs.Calls.{Query, LowestUnusedDcidSeq, CreateNewConnectionIdFrame}
-use Rattle.ids_rules.specs.Promise.{Starts, sequences, WithoutGap}
+use Rattle.ids_rules.specs.Promise.{Starts, sequences, setsInitial, takesFrame, destinations, neverAfter, WithoutGap}
 
 -- ---- what comes, and the call that takes it
 
@@ -79,6 +79,15 @@ makeFrame s = Ask (CreateNewConnectionIdFrame s)
 abbrev pub itself : Call → Call
 itself c = c
 
+-- a frame that came before, on the view of then, and the calls since: it comes again
+pub record Again : Type 0 where
+  pub before : View
+  pub frame : NewConnectionId
+  pub since : List Call
+
+abbrev pub sameAgain : Again → Call
+sameAgain r = newId (r .frame)
+
 abbrev pub itemOf : NewConnectionId → Item
 itemOf f = record { cid = f .cid; seq = f .seq; token = some (f .token); path = none }
 
@@ -130,12 +139,16 @@ Closes code o = (eqb (o .refusal) 0 ≡ false) × (wireCode (o .refusal) ≡ cod
 abbrev pub Rule : Type 0 → Type 1
 Rule A = View → A → Out → Type 0
 
--- on every well-formed view, whatever came in its form, the call meets the rule; it does but where the exception holds; at v and f, which are such, it does not
+-- on every well-formed view, whatever came in its form, the call meets the rule; it does but where the exception holds; below, at v and f, which are such, it does not
 abbrev pub Met : {A : Type 0} → (A → Call) → Rule A → Type 0
 Met {A} call R = (v : View) (f : A) → well v ≡ true → callFormed (call f) ≡ true → R v f (apply v (call f))
 
 abbrev pub MetUnless : {A : Type 0} → (A → Call) → (View → A → Bool) → Rule A → Type 0
 MetUnless {A} call E R = (v : View) (f : A) → well v ≡ true → callFormed (call f) ≡ true → E v f ≡ false → R v f (apply v (call f))
+
+-- whatever calls came before from a fresh state, refused ones too, where no set_initial_dcid came after an add_dcid, the call meets the rule
+abbrev pub MetOver : {A : Type 0} → (A → Call) → Rule A → Type 0
+MetOver {A} call R = (v : View) → Starts v → (cs : List Call) → neverAfter setsInitial takesFrame cs ≡ true → (f : A) → callFormed (call f) ≡ true → R (run v cs) f (apply (run v cs) (call f))
 
 abbrev pub DiffersAt : {A : Type 0} → (A → Call) → Rule A → View → A → Type 0
 DiffersAt call R v f = (well v ≡ true) × (callFormed (call f) ≡ true) × (R v f (apply v (call f)) → ⊥)
@@ -147,7 +160,7 @@ abbrev pub OwnInitialIsZero : Type 0
 OwnInitialIsZero = (v : View) → Starts v → sequences v ≡ 0 ∷ []
 
 abbrev pub InitialIsZero : Rule Initial
-InitialIsZero v i o = map seqOf (o .view .dcids) ≡ 0 ∷ []
+InitialIsZero v i o = destinations (o .view) ≡ 0 ∷ []
 
 -- an issued ID MUST be accepted until the peer retires it (and 5.1.2: also where the peer is asked to retire it): no call but a retire takes one out
 abbrev pub AcceptedUntilRetired : Rule Call
@@ -235,7 +248,7 @@ NotOffered v q o = q ≡ LowestUnusedDcidSeq → (s : ℕ) → o .answer ≡ Per
 abbrev pub LowerAreRetired : Rule NewConnectionId
 LowerAreRetired v f o = v .largestPeerRetirePriorTo < f .retirePriorTo → o .refusal ≡ 0
     → (all (from (f .retirePriorTo)) (o .view .dcids) ≡ true)
-    × ((s : ℕ) → has s (map seqOf (v .dcids)) ≡ true → s < f .retirePriorTo → has s (o .view .dcidsToRetire) ≡ true)
+    × ((s : ℕ) → has s (destinations v) ≡ true → s < f .retirePriorTo → has s (o .view .dcidsToRetire) ≡ true)
 
 -- SHOULD limit the number of IDs retired and not acknowledged, of which the view has those whose frame waits: whatever is called, if it is no error, at most so many wait
 abbrev pub QueueLimited : Rule Call
@@ -270,20 +283,11 @@ TooManyToRetire code v f o = otherwise v f ≡ false → retireLimit v < inNeed 
 
 -- an ID MUST NOT be forgotten without being retired: by any call
 abbrev pub NotForgotten : Rule Call
-NotForgotten v c o = (s : ℕ) → has s (map seqOf (v .dcids)) ≡ true → (has s (map seqOf (o .view .dcids)) || has s (o .view .dcidsToRetire)) ≡ true
+NotForgotten v c o = (s : ℕ) → has s (destinations v) ≡ true → (has s (destinations (o .view)) || has s (o .view .dcidsToRetire)) ≡ true
 
 -- the exception: set_initial_dcid empties the table
 abbrev pub initial : View → Call → Bool
-initial v (SetInitialDcid cid token path) = true
-initial v (SetScidLimit n) = false
-initial v (AddScid cid token advertise path retireIfNeeded) = false
-initial v (RetireScid s packet) = false
-initial v (AddDcid cid s token b) = false
-initial v (MarkScidUsed s p) = false
-initial v (MarkDcidUsed s p) = false
-initial v (MarkScidToAdvertise s on) = false
-initial v (MarkDcidToRetire s on) = false
-initial v (Ask q) = false
+initial v c = setsInitial c
 
 -- SHOULD NOT raise Retire Prior To before the peer has retired what the last value named
 abbrev pub RaisedOnce : Rule Issue
@@ -327,9 +331,15 @@ ZeroLengthDestination v f o = v .zeroLengthDcid ≡ true → Closes PROTOCOL-VIO
 abbrev pub SameFrameAgain : Rule NewConnectionId
 SameFrameAgain v f o = v .zeroLengthDcid ≡ false → repeated v f ≡ true → o ≡ accepted (Retired []) v
 
--- and at any later time, whatever calls came between
-abbrev pub SameFrameLater : Rule NewConnectionId
-SameFrameLater v f o = (w : View) (cs : List Call) → apply w (newId f) .refusal ≡ 0 → v ≡ run w (newId f ∷ cs) → o .refusal ≡ 0
+-- and at any later time, whatever calls came since
+abbrev pub SameFrameLater : Rule Again
+SameFrameLater v r o = apply (r .before) (sameAgain r) .refusal ≡ 0 → v ≡ run (r .before) (sameAgain r ∷ r .since) → o .refusal ≡ 0
+
+-- the exception: set_initial_dcid emptied the table since (D14). Or, where the table does not hold it as it came: its ID or its sequence came otherwise since (`Conflict`); its
+-- Retire Prior To is above its sequence (`AboveSequence`); or it was retired, waits no more, and as many wait as may (D44)
+abbrev pub unwelcome : View → Again → Bool
+unwelcome v r = any setsInitial (r .since)
+    || not (repeated v (r .frame)) && (held v (r .frame) || (ltb (r .frame .seq) (r .frame .retirePriorTo) || not (has (r .frame .seq) (v .dcidsToRetire)) && leb (retireLimit v) (length (v .dcidsToRetire))))
 
 -- an ID with another token or sequence, or a sequence with another ID, MAY be a PROTOCOL_VIOLATION: here it is
 abbrev pub Conflict : Rule NewConnectionId
@@ -363,6 +373,10 @@ LateIsRetired v f o = f .seq < v .largestPeerRetirePriorTo → o .refusal ≡ 0 
 -- and so it is not in use
 abbrev pub LateIsNotKept : Rule NewConnectionId
 LateIsNotKept v f o = f .seq < v .largestPeerRetirePriorTo → o .refusal ≡ 0 → any (hasSeq (f .seq)) (o .view .dcids) ≡ false
+
+-- it already was, where it waits: nothing changes, and unless the frame is otherwise an error it is none
+abbrev pub WaitsAlready : Rule NewConnectionId
+WaitsAlready v f o = f .seq < v .largestPeerRetirePriorTo → has (f .seq) (v .dcidsToRetire) ≡ true → (o .view ≡ v) × (otherwise v f ≡ false → o ≡ accepted (Retired []) v)
 
 -- ---- 19.16, RETIRE_CONNECTION_ID
 
@@ -431,12 +445,19 @@ pub record Conforms : Type 0 where
   -- 19.15
   pub zeroLengthDestination : Met newId ZeroLengthDestination
   pub sameFrameAgain : Met newId SameFrameAgain
+  -- but for D14 and D44
+  pub sameFrameLater : MetUnless sameAgain unwelcome SameFrameLater
   pub conflict : Met newId Conflict
   pub issuedAboveOwn : Met issueId IssuedAboveOwn
   -- with the code of D1, and but for D6 and D39
   pub aboveSequence : MetUnless newId repeated (AboveSequence PROTOCOL-VIOLATION)
   pub ignores : Met newId Ignores
   pub lateIsRetired : MetUnless newId repeated LateIsRetired
+  pub lateIsNotKept : MetUnless newId repeated LateIsNotKept
+  pub waitsAlready : Met newId WaitsAlready
+  -- without D39's set_initial_dcid
+  pub lateIsRetiredOver : MetOver newId LateIsRetired
+  pub lateIsNotKeptOver : MetOver newId LateIsNotKept
   -- 19.16; but for D17 and D16
   pub tokenEnds : Met retireId TokenEnds
   pub notIssued : Met retireId NotIssued
@@ -482,14 +503,16 @@ pushed = run (ids 1) (issueId (scid 2 false) ∷ issueId (scid 3 true) ∷ issue
 abbrev pub stuck : View
 stuck = run pushed (retireId (retired 2) ∷ [])
 
+-- five more IDs, each of which retires what was before it; RETIRE_CONNECTION_ID goes out for sequence 0 alone
+abbrev pub rotated : List Call
+rotated = newId (dcid 3 1 1) ∷ MarkDcidToRetire 0 false ∷ newId (dcid 4 2 2) ∷ newId (dcid 5 3 3) ∷ newId (dcid 6 4 4) ∷ newId (dcid 7 5 5) ∷ []
+
 pub record Differs : Type 0 where
   -- D1: PROTOCOL_VIOLATION for FRAME_ENCODING_ERROR
   pub encoding : DiffersAt newId (AboveSequence FRAME-ENCODING-ERROR) (ids 1) (dcid 2 0 1)
   -- D2: 2 x limit - 1
   pub overLimit : DiffersAt newId WithinLimit (run (ids 2) (newId (dcid 2 0 0) ∷ newId (dcid 3 1 0) ∷ [])) (dcid 4 2 0)
   pub limitNoError : DiffersAt newId OverLimit (run (ids 2) (newId (dcid 2 0 0) ∷ newId (dcid 3 1 0) ∷ [])) (dcid 4 2 0)
-  -- D3: a sequence already queued comes back to the table
-  pub comesBack : DiffersAt newId LateIsNotKept (run (ids 2) (initialDcid 2 ∷ newId (dcid 3 1 1) ∷ [])) (dcid 2 0 0)
   -- D4: INTERNAL_ERROR for PROTOCOL_VIOLATION
   pub zeroLengthSource : DiffersAt retireId ZeroLengthSource (fresh 1 zeroId 0 none) (record { seq = 0; packet = zeroId })
   -- D5: a repeat's higher Retire Prior To is ignored
@@ -516,16 +539,15 @@ pub record Differs : Type 0 where
   -- D13: no ID can be issued, without leave and with leave
   pub cannotSupply : DiffersAt issueId Supplies stuck (scid 5 false)
   pub cannotSupplyWithLeave : DiffersAt issueId Supplies stuck (scid 5 true)
-  -- D14: what the table held is forgotten
+  -- D14: what the table held is forgotten; its frame, received again, is a new one, and an error where the table is full
   pub forgets : DiffersAt itself NotForgotten (run (ids 1) (newId (dcid 2 1 0) ∷ [])) (initialDcid 3)
+  pub forgottenFrame : DiffersAt sameAgain SameFrameLater (run (ids 1) (newId (dcid 2 1 0) ∷ initialDcid 3 ∷ [])) (record { before = ids 1; frame = dcid 2 1 0; since = initialDcid 3 ∷ [] })
   -- D15: longer input is cut to 20 bytes
   pub cutsLonger : DiffersAt newBytes LongerIsError (ids 1) (replicate 21 1)
   -- D16: INTERNAL_ERROR, where none is left at or above the own Retire Prior To
   pub retireRefused : DiffersAt retireId GivenIsRetired pushed (retired 2)
   -- D17: INTERNAL_ERROR for PROTOCOL_VIOLATION
   pub onlyOwnPacket : DiffersAt retireId OwnPacket (ids 1) (retired 0)
-  -- D18: the repeat of a frame whose ID was retired is CONNECTION_ID_LIMIT_ERROR where the table is full
-  pub sameFrameRefused : DiffersAt newId SameFrameLater (run (ids 1) (newId (dcid 2 0 0) ∷ newId (dcid 3 1 1) ∷ [])) (dcid 2 0 0)
   -- D19: Retire Prior To is raised again while sequence 0 is not retired
   pub raisesAgain : DiffersAt issueId RaisedOnce (run (ids 1) (issueId (scid 2 false) ∷ issueId (scid 3 true) ∷ [])) (scid 4 true)
   -- D20: a sequence marked to retire is still offered
@@ -544,3 +566,6 @@ pub record Differs : Type 0 where
   pub movesOwnPath : DiffersAt useSource (OnePath (λ v. v .scids)) (ids 1) (record { seq = 0; path = 1 })
   -- D39: the peer's first ID, set after a Retire Prior To, lies below it, and its frame is a repeat
   pub lateRepeat : DiffersAt newId LateIsRetired (run (ids 1) (newId (dcid 5 5 5) ∷ initialDcid 2 ∷ [])) (dcid 2 0 0)
+  pub lateKept : DiffersAt newId LateIsNotKept (run (ids 1) (newId (dcid 5 5 5) ∷ initialDcid 2 ∷ [])) (dcid 2 0 0)
+  -- D44: a frame whose sequence was retired, and waits no more, is queued once more, and is PROTOCOL_VIOLATION where as many wait as may
+  pub retiredFrame : DiffersAt sameAgain SameFrameLater (run (ids 1) (newId (dcid 2 0 0) ∷ rotated)) (record { before = ids 1; frame = dcid 2 0 0; since = rotated })

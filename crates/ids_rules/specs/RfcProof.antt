@@ -1,14 +1,14 @@
 -- The rules of the RFC that the calls meet, and where they differ.
 use Prim.Native.Nat.{ℕ, _+_, _*_, _≤_, _<_, min}
 use mathlib.Core.Path.{_≡_, refl, sym, ap, _∙_, subst}
-use mathlib.Core.List.{List, [], _∷_, _++_, map}
+use mathlib.Core.List.{List, [], _∷_, _++_, map, append-nil}
 use mathlib.Core.Bool.{Bool, true, false, cond, not, _&&_, _||_, or-true}
 use mathlib.Core.Option.{Option, none, some}
 use native.Mathlib.Omega.{arith}
 use lib.ListN.{length, length-append, length-map}
 use lib.Dec.{eqb, leb, ltb}
-use borrow.Author.Tests.{leb-true, leb-false, ltb-true, ltb-false, eqb-true, eqb-false, le-leb, lt-ltb, le-ltb, lt-leb, eq-eqb, not-true}
-use Rattle.lists.specs.Defs.{present, first, keep, any, least, less, has}
+use borrow.Author.Tests.{leb-true, leb-false, ltb-true, ltb-false, eqb-true, eqb-false, le-leb, lt-ltb, le-ltb, lt-leb, eq-eqb, ne-eqb, not-true}
+use Rattle.lists.specs.Defs.{present, first, keep, any, all, least, less, has}
 use Rattle.lists.specs.Bools.{and-both}
 use Rattle.lists.specs.Search.{length-keep}
 use Rattle.values.specs.declared.cid.ConnectionId.{ConnectionId}
@@ -18,18 +18,21 @@ use Rattle.values.specs.Laws.{same-id-is}
 use Rattle.values.specs.Refusals.{CONNECTION-ID-LIMIT-ERROR, PROTOCOL-VIOLATION}
 use Rattle.ids_rules.specs.Values.{Item, onPath, seqOf, hasSeq, hasCid, from, below, clashes, repeats}
 use Rattle.values.specs.declared.used.UsedSeq.{UsedSeq}
-use Rattle.ids_rules.specs.View.{View, Nothing, Issued, Out, refused}
+use Rattle.ids_rules.specs.View.{View, Nothing, Issued, Retired, Out, refused, accepted}
 use Rattle.ids_rules.specs.With.{withDcidsToRetire}
 use Rattle.ids_rules.specs.Steps.{lowestFrom, sole, without, tooMany, queueLate, raise, append, lowered}
-use Rattle.ids_rules.specs.Ends.{Raised, spare, lifts, AddScidEnds, refuses, raises, issues, RetireScidEnds, unissued, only as only-one, absent, out, frees, AddDcidEnds, rejects, again, late4, late, lowers, renews, adds, queued, add-scid-ends, retire-scid-ends, add-dcid-ends}
+use Rattle.ids_rules.specs.Ends.{Raised, spare, lifts, AddScidEnds, refuses, raises, issues, RetireScidEnds, unissued, only as only-one, absent, out, frees, AddDcidEnds, rejects, again, waits, late4, late, lowers, renews, adds, queued, add-scid-ends, retire-scid-ends, add-dcid-ends}
 use Rattle.ids_rules.specs.Well.{well, distinct}
-use Rattle.ids_rules.specs.Calls.{Call, SetInitialDcid, SetScidLimit, AddScid, RetireScid, AddDcid, MarkScidUsed, MarkDcidUsed, MarkScidToAdvertise, MarkDcidToRetire, Ask, callFormed, step, apply}
+use Rattle.ids_rules.specs.Calls.{Call, SetInitialDcid, SetScidLimit, AddScid, RetireScid, AddDcid, MarkScidUsed, MarkDcidUsed, MarkScidToAdvertise, MarkDcidToRetire, Ask, callFormed, step, apply, after, run}
 use Rattle.ids_rules.specs.Laws.{any-moved, decided, optioned, never, or-neither, all-append, all-kept, first-none, first-some}
 use Rattle.ids_rules.specs.Kept.{Well, well-is, raised-le}
-use Rattle.ids_rules.specs.Once.{without-gap, map-used, begun}
-use Rattle.ids_rules.specs.Rfc.{NewConnectionId, RetireConnectionId, Issue, newId, retireId, issueId, initialId, itself, itemOf, Closes, Rule, Met, MetUnless, held, repeated, increases, comesLate, kept, inNeed, retireLimit, filled, unfilled, excess, noRoom, marking, crowded, unlimited, otherwise, only, noneLeft, active, initial, retiring}
+use Rattle.ids_rules.specs.Never.{fresh-well, run-well}
+use Rattle.ids_rules.specs.Promise.{setsInitial, takesFrame, destinations, noneBelow, neverAfter}
+use Rattle.ids_rules.specs.Once.{without-gap, has-map, map-more, begun}
+use Rattle.ids_rules.specs.Below.{has-right, has-below, has-from, by-frame, Aside, step-aside, known, Carried, run-carried, none-below-early}
+use Rattle.ids_rules.specs.Rfc.{NewConnectionId, RetireConnectionId, Issue, newId, retireId, issueId, initialId, itself, Again, sameAgain, itemOf, Closes, Rule, Met, MetUnless, MetOver, held, repeated, increases, comesLate, kept, inNeed, retireLimit, filled, unfilled, excess, noRoom, marking, crowded, unlimited, otherwise, unwelcome, only, noneLeft, active, initial, retiring}
 use Rattle.ids_rules.specs.Rfc.{InitialIsZero, AcceptedUntilRetired, OthersStay, WithinPeerLimit, WithinLimit, OverLimit, Supplies, TotalLimited, IssuanceLimited, ZeroLengthIssues, LowerAreRetired, QueueLimited, TracksTwice, TooManyToRetire, NotForgotten}
-use Rattle.ids_rules.specs.Rfc.{ZeroLengthDestination, SameFrameAgain, Conflict, IssuedAboveOwn, AboveSequence, Ignores, LateIsRetired, TokenEnds, NotIssued, OwnPacket, GivenIsRetired, Conforms, Differs, cid, token, ids, dcid}
+use Rattle.ids_rules.specs.Rfc.{ZeroLengthDestination, SameFrameAgain, SameFrameLater, Conflict, IssuedAboveOwn, AboveSequence, Ignores, LateIsRetired, LateIsNotKept, WaitsAlready, TokenEnds, NotIssued, OwnPacket, GivenIsRetired, Conforms, Differs, cid, token, ids, dcid}
 
 -- a call with arguments of their form, on a well-formed view, is its step
 apply-is : (v : View) (c : Call) → well v ≡ true → callFormed c ≡ true → step v c ≡ apply v c
@@ -97,8 +100,8 @@ first-repeats x (y ∷ l) d e =
     test false true r c e n i = never (sym (clash-through y x l e c) ∙ n)
     test false false r c e n i = i e
 
-same-again : Met newId SameFrameAgain
-same-again = met newId SameFrameAgain (λ v f h z e. let w = first-repeats (itemOf f) (v .dcids) (h .destination .apart) e in rw (z, w .1, w .2))
+repeat-is-taken : (v : View) (f : NewConnectionId) → Well v → v .zeroLengthDcid ≡ false → repeated v f ≡ true → step v (newId f) ≡ accepted (Retired []) v
+repeat-is-taken v f h z e = let w = first-repeats (itemOf f) (v .dcids) (h .destination .apart) e in rw (z, w .1, w .2)
 
 -- what is found passes no test that none passes
 first-passes : {A : Type 0} (p q : A → Bool) (l : List A) (y : A) → first p l ≡ some y → any q l ≡ false → q y ≡ false
@@ -146,45 +149,38 @@ ignored v f h c k l =
 
 -- ---- late sequences, and raised ones
 
-has-right : (s : ℕ) (l m : List ℕ) → has s m ≡ true → has s (l ++ m) ≡ true
-has-right s [] m e = e
-has-right s (x ∷ l) m e = rw (has-right s l m e, or-true)
+-- where the table holds neither the ID nor the sequence
+unheld : (x : Item) (l : List Item) → any (λ (y : Item). clashes y x) l ≡ false → any (hasSeq (x .seq)) l ≡ false
+unheld x [] e = refl
+unheld x (y ∷ l) e =
+    let w = or-neither (clashes y x) (any (λ (y : Item). clashes y x) l) e in
+    let u = or-neither (sameId (y .cid) (x .cid)) (eqb (y .seq) (x .seq)) (w .0) in
+    rw (ne-eqb (x .seq) (y .seq) (λ z. eqb-false (y .seq) (x .seq) (u .1) (sym z))) (unheld x l (w .1))
 
 late-retired : (v : View) (f : NewConnectionId) {o : Out} → AddDcidEnds (itemOf f) (f .retirePriorTo) v o → held v f ≡ false → LateIsRetired v f o
 late-retired v f (rejects n k) c l z = absurd (omega arith)
 late-retired v f (again e) c l z = never (sym e ∙ c)
+late-retired v f (waits n k q) c l z = q
 late-retired v f (late4 n k m) c l z = absurd (omega arith)
 late-retired v f (late n k m t) c l z = has-right (f .seq) (v .dcidsToRetire) (f .seq ∷ []) (rw (eq-eqb (f .seq) (f .seq) refl))
 late-retired v f (lowers m k n u q) c l z = absurd (omega arith)
 late-retired v f (renews n u q r t) c l z = absurd (omega (arith, n .fits))
-late-retired v f (adds n u q r) c l z = q l
+late-retired v f (adds n u q r) c l z = absurd (omega arith)
 
--- a sequence of the table below b, and one not below b
-has-below : (s b : ℕ) (l : List Item) → s < b → has s (map seqOf l) ≡ true → has s (map seqOf (keep (below b) l)) ≡ true
-has-below s b [] k e = e
-has-below s b (x ∷ l) k e = test (eqb s (x .seq)) (leb b (x .seq)) refl refl e (has-below s b l k)
-  where
-    test : (t u : Bool) → eqb s (x .seq) ≡ t → leb b (x .seq) ≡ u → (t || has s (map seqOf l)) ≡ true → (has s (map seqOf l) ≡ true → has s (map seqOf (keep (below b) l)) ≡ true)
-        → has s (map seqOf (cond (not u) (x ∷ keep (below b) l) (keep (below b) l))) ≡ true
-    test true true p q e i = absurd (omega (arith, eqb-true s (x .seq) p, leb-true b (x .seq) q))
-    test true false p q e i = rw p
-    test false true p q e i = i e
-    test false false p q e i = rw p (i e)
-
-has-from : (s b : ℕ) (l : List Item) → b ≤ s → has s (map seqOf l) ≡ true → has s (map seqOf (keep (from b) l)) ≡ true
-has-from s b [] k e = e
-has-from s b (x ∷ l) k e = test (eqb s (x .seq)) (leb b (x .seq)) refl refl e (has-from s b l k)
-  where
-    test : (t u : Bool) → eqb s (x .seq) ≡ t → leb b (x .seq) ≡ u → (t || has s (map seqOf l)) ≡ true → (has s (map seqOf l) ≡ true → has s (map seqOf (keep (from b) l)) ≡ true)
-        → has s (map seqOf (cond u (x ∷ keep (from b) l) (keep (from b) l))) ≡ true
-    test true false p q e i = absurd (omega (arith, eqb-true s (x .seq) p, leb-false b (x .seq) q))
-    test true true p q e i = rw p
-    test false false p q e i = i e
-    test false true p q e i = rw p (i e)
+late-not-kept : (v : View) (f : NewConnectionId) {o : Out} → AddDcidEnds (itemOf f) (f .retirePriorTo) v o → held v f ≡ false → LateIsNotKept v f o
+late-not-kept v f (rejects n k) c l z = absurd (omega arith)
+late-not-kept v f (again e) c l z = never (sym e ∙ c)
+late-not-kept v f (waits n k q) c l z = unheld (itemOf f) (v .dcids) c
+late-not-kept v f (late4 n k m) c l z = absurd (omega arith)
+late-not-kept v f (late n k m t) c l z = unheld (itemOf f) (v .dcids) c
+late-not-kept v f (lowers m k n u q) c l z = absurd (omega arith)
+late-not-kept v f (renews n u q r t) c l z = absurd (omega (arith, n .fits))
+late-not-kept v f (adds n u q r) c l z = absurd (omega arith)
 
 lower-retired : (v : View) (f : NewConnectionId) {o : Out} → AddDcidEnds (itemOf f) (f .retirePriorTo) v o → held v f ≡ false → LowerAreRetired v f o
 lower-retired v f (rejects n k) c l z = absurd (omega arith)
 lower-retired v f (again e) c l z = never (sym e ∙ c)
+lower-retired v f (waits n k q) c l z = absurd (omega (arith, n .fits))
 lower-retired v f (late4 n k m) c l z = absurd (omega arith)
 lower-retired v f (late n k m t) c l z = absurd (omega (arith, n .fits))
 lower-retired v f (lowers m k n u q) c l z = absurd (omega arith)
@@ -207,6 +203,7 @@ kept-all v f k = rw (le-ltb (v .largestPeerRetirePriorTo) (f .retirePriorTo) k)
 limit-within : (v : View) (f : NewConnectionId) {o : Out} → AddDcidEnds (itemOf f) (f .retirePriorTo) v o → length (kept v f) < v .dcidLimit → (held v f ≡ true → length (v .dcids) ≤ v .dcidLimit) → WithinLimit v f o
 limit-within v f (rejects n k) l g z = absurd (omega arith)
 limit-within v f (again e) l g z = g e
+limit-within v f (waits n k q) l g z = omega (arith, ap length (kept-all v f (omega (arith, n .fits))))
 limit-within v f (late4 n k m) l g z = absurd (omega arith)
 limit-within v f (late n k m t) l g z = omega (arith, ap length (kept-all v f (omega (arith, n .fits))))
 limit-within v f (lowers m k n u q) l g z = absurd (omega arith)
@@ -225,10 +222,10 @@ limited = met-unless newId WithinLimit filled (λ v f h e.
 -- ---- nothing is forgotten
 
 record Kept (v : View) (o : Out) : Type 0 where
-  each : (s : ℕ) → has s (map seqOf (v .dcids)) ≡ true → (has s (map seqOf (o .view .dcids)) || has s (o .view .dcidsToRetire)) ≡ true
+  each : (s : ℕ) → has s (destinations v) ≡ true → (has s (destinations (o .view)) || has s (o .view .dcidsToRetire)) ≡ true
 
--- the table is the same
-same : (v : View) (o : Out) → o .view .dcids ≡ v .dcids → Kept v o
+-- the sequences are the same
+same : (v : View) (o : Out) → destinations (o .view) ≡ destinations v → Kept v o
 same v o q = record { each = λ s e. rw (q, e) }
 
 -- the table is longer
@@ -252,35 +249,17 @@ lowered-keeps v b s e = test (leb b s) refl
 dcid-keeps : {x : Item} {b : ℕ} (v : View) {o : Out} → AddDcidEnds x b v o → Kept v o
 dcid-keeps v (rejects n k) = same v _ refl
 dcid-keeps v (again e) = same v _ refl
+dcid-keeps v (waits n k q) = same v _ refl
 dcid-keeps v (late4 n k m) = same v _ refl
 dcid-keeps v (late n k m t) = same v _ refl
 dcid-keeps {b = b} v (lowers m k n u q) = record { each = lowered-keeps v b }
 dcid-keeps {x} {b} v (renews n u q r t) = record { each = λ s e. longer x (keep (from b) (v .dcids)) (queued b v) s (lowered-keeps v b s e) }
 dcid-keeps {x} v (adds n u q r) = record { each = λ s e. longer x (v .dcids) (v .dcidsToRetire) s (rw e) }
 
-add-keeps : {x : Item} {advertise : Bool} (v : View) {o : Out} → AddScidEnds x advertise v o → Kept v o
-add-keeps v (refuses n k) = same v _ refl
-add-keeps v (raises n r k t) = same v _ refl
-add-keeps v (issues r t n p l a) = same v _ refl
-
-retire-keeps : {s : ℕ} {packet : ConnectionId} (v : View) {o : Out} → RetireScidEnds s packet v o → Kept v o
-retire-keeps v (unissued k) = same v _ refl
-retire-keeps v (only-one e) = same v _ refl
-retire-keeps v (absent e) = same v _ refl
-retire-keeps v (out n k a e) = same v _ refl
-retire-keeps v (frees x r a e l) = same v _ refl
-
 step-keeps : (v : View) (c : Call) → initial v c ≡ false → Kept v (step v c)
-step-keeps v (SetInitialDcid cid token path) i = never i
-step-keeps v (SetScidLimit n) i = same v _ refl
-step-keeps v (AddScid cid token advertise path retireIfNeeded) i = add-keeps v (add-scid-ends cid token advertise path v retireIfNeeded)
-step-keeps v (RetireScid s packet) i = retire-keeps v (retire-scid-ends s packet v)
-step-keeps v (AddDcid cid s token b) i = dcid-keeps v (add-dcid-ends cid s token b v)
-step-keeps v (MarkScidUsed s p) i = decided (Kept v) (any (hasSeq s) (v .scids)) (λ e. same v _ refl) (λ e. same v _ refl)
-step-keeps v (MarkDcidUsed s p) i = decided (Kept v) (any (hasSeq s) (v .dcids)) (λ e. record { each = λ t q. rw (map-used s p (v .dcids), q) }) (λ e. same v _ refl)
-step-keeps v (MarkScidToAdvertise s on) i = decided (Kept v) (on && leb queueSlots (length (v .scidsToAdvertise))) (λ e. same v _ refl) (λ e. same v _ refl)
-step-keeps v (MarkDcidToRetire s on) i = decided (Kept v) (on && leb queueSlots (length (v .dcidsToRetire))) (λ e. same v _ refl) (λ e. same v _ refl)
-step-keeps v (Ask q) i = same v _ refl
+step-keeps v =
+    by-frame (λ (c : Call). initial v c ≡ false → Kept v (step v c)) (λ cid s token b i. dcid-keeps v (add-dcid-ends cid s token b v))
+    (λ c f i. same v _ (step-aside v c f .alike i .table))
 
 -- ---- the peer's limit
 
@@ -392,6 +371,7 @@ add-accepts {x} v (issues r t n p l a) = record { each = λ id e. any-left (hasC
 dcid-accepts : {x : Item} {b : ℕ} (v : View) {o : Out} → AddDcidEnds x b v o → Accepts v o
 dcid-accepts v (rejects n k) = alike v _ refl
 dcid-accepts v (again e) = alike v _ refl
+dcid-accepts v (waits n k q) = alike v _ refl
 dcid-accepts v (late4 n k m) = alike v _ refl
 dcid-accepts v (late n k m t) = alike v _ refl
 dcid-accepts v (lowers m k n u q) = alike v _ refl
@@ -495,6 +475,7 @@ module _ (v : View) (m : length (v .dcidsToRetire) ≤ retireLimit v) where
   dcid-limited : {x : Item} {b : ℕ} {o : Out} → AddDcidEnds x b v o → Limited o
   dcid-limited (rejects n k) z = m
   dcid-limited (again e) z = m
+  dcid-limited (waits n k q) z = m
   dcid-limited (late4 n k l) z = absurd (omega arith)
   dcid-limited (late n k l t) z = ltb-false _ _ t
   dcid-limited (lowers n k w u q) z = absurd (omega (arith, k .low))
@@ -520,37 +501,67 @@ too-many w t = ltb-true (retireFactor * w .dcidLimit) (length (w .dcidsToRetire)
 not-many : (w : View) → tooMany w ≡ false → length (w .dcidsToRetire) ≤ retireFactor * w .dcidLimit
 not-many w t = ltb-false (retireFactor * w .dcidLimit) (length (w .dcidsToRetire)) t
 
--- a frame that is no error for what it says, and gives nothing that is held, comes late, raises Retire Prior To, or is added
+-- a frame that is no error for what it says, and gives nothing that is held, comes late and waits already, comes late, raises Retire Prior To, or is added
 module _ (v : View) (f : NewConnectionId) where
-  abbrev queues : Bool
-  queues = comesLate v f && not (has (f .seq) (v .dcidsToRetire))
+  abbrev waiting : Bool
+  waiting = has (f .seq) (v .dcidsToRetire)
 
   plain : (P : Out → Type 0) → otherwise v f ≡ false
-      → (queues ≡ true → increases v f ≡ false → P (queueLate (f .seq) v))
-      → (queues ≡ false → increases v f ≡ true → P (raise (itemOf f) (f .retirePriorTo) v))
-      → (queues ≡ false → increases v f ≡ false → P (append (itemOf f) [] v))
+      → (comesLate v f ≡ true → waiting ≡ true → increases v f ≡ false → P (accepted (Retired []) v))
+      → (comesLate v f ≡ true → waiting ≡ false → increases v f ≡ false → P (queueLate (f .seq) v))
+      → (comesLate v f ≡ false → increases v f ≡ true → P (raise (itemOf f) (f .retirePriorTo) v))
+      → (comesLate v f ≡ false → increases v f ≡ false → P (append (itemOf f) [] v))
       → P (step v (newId f))
-  plain P n l r a =
+  plain P n w l r a =
       let u = or-neither (v .zeroLengthDcid) _ n in
-      let w = or-neither (held v f) _ (u .1) in
-      let k : f .retirePriorTo ≤ f .seq = ltb-false (f .seq) (f .retirePriorTo) (w .1) in
+      let t = or-neither (held v f) _ (u .1) in
+      let k : f .retirePriorTo ≤ f .seq = ltb-false (f .seq) (f .retirePriorTo) (t .1) in
       decided P (v .zeroLengthDcid) (λ e. never (sym e ∙ u .0)) (λ e.
       optioned P (first (λ (y : Item). clashes y (itemOf f)) (v .dcids))
-      (λ e. decided P (ltb (f .seq) (f .retirePriorTo)) (λ e. never (sym e ∙ w .1)) (λ e.
-      decided P queues
-      (λ e. let q = and-both (comesLate v f) _ e in l e (le-ltb (v .largestPeerRetirePriorTo) (f .retirePriorTo) (omega (arith, ltb-true (f .seq) (v .largestPeerRetirePriorTo) (q .0)))))
-      (λ q. decided P (increases v f) (λ e. r q e) (λ e. a q e))))
-      (λ y e. never (sym (first-some (λ (y : Item). clashes y (itemOf f)) (v .dcids) y e) ∙ w .0)))
+      (λ e. decided P (ltb (f .seq) (f .retirePriorTo)) (λ e. never (sym e ∙ t .1)) (λ e.
+      decided P (comesLate v f)
+      (λ c. let i : increases v f ≡ false = le-ltb (v .largestPeerRetirePriorTo) (f .retirePriorTo) (omega (arith, ltb-true (f .seq) (v .largestPeerRetirePriorTo) c)) in
+      decided P waiting (λ q. w c q i) (λ q. l c q i))
+      (λ c. decided P (increases v f) (λ e. r c e) (λ e. a c e))))
+      (λ y e. never (sym (first-some (λ (y : Item). clashes y (itemOf f)) (v .dcids) y e) ∙ t .0)))
 
-  -- what is in need of retirement, in each of the three
-  need-late : queues ≡ true → increases v f ≡ false → length (v .dcidsToRetire ++ (f .seq ∷ [])) ≡ inNeed v f
-  need-late q e = rw (q, e) (simp length-append (omega arith))
+  -- what is in need of retirement, in each of the four
+  need-waits : comesLate v f ≡ true → waiting ≡ true → increases v f ≡ false → length (v .dcidsToRetire) ≡ inNeed v f
+  need-waits c q e = rw (c, q, e) (omega arith)
 
-  need-raised : queues ≡ false → increases v f ≡ true → length (queued (f .retirePriorTo) v) ≡ inNeed v f
-  need-raised q e = rw (q, e) (simp (length-append, length-map) (omega arith))
+  need-late : comesLate v f ≡ true → waiting ≡ false → increases v f ≡ false → length (v .dcidsToRetire ++ (f .seq ∷ [])) ≡ inNeed v f
+  need-late c q e = rw (c, q, e) (simp length-append (omega arith))
 
-  need-same : queues ≡ false → increases v f ≡ false → length (v .dcidsToRetire) ≡ inNeed v f
-  need-same q e = rw (q, e) (omega arith)
+  need-raised : comesLate v f ≡ false → increases v f ≡ true → length (queued (f .retirePriorTo) v) ≡ inNeed v f
+  need-raised c e = rw (c, e) (simp (length-append, length-map) (omega arith))
+
+  need-same : comesLate v f ≡ false → increases v f ≡ false → length (v .dcidsToRetire) ≡ inNeed v f
+  need-same c e = rw (c, e) (omega arith)
+
+  -- with fewer in the queue than may wait, a late one waits too
+  late-fits : Well v → length (v .dcidsToRetire) < retireLimit v → queueLate (f .seq) v .refusal ≡ 0
+  late-fits h k =
+      let P : Out → Type 0 = λ o. o .refusal ≡ 0 in
+      let w : View = withDcidsToRetire (v .dcidsToRetire ++ (f .seq ∷ [])) v in
+      decided P (leb queueSlots (length (v .dcidsToRetire))) (λ t. absurd (omega (arith, leb-true queueSlots (length (v .dcidsToRetire)) t, h .limits .dhigh))) (λ t.
+      decided P (tooMany w) (λ t. absurd (omega (arith, length-append (v .dcidsToRetire) (f .seq ∷ []), too-many w t))) (λ t. refl))
+
+-- what waits already is left as it is
+waits-already : Met newId WaitsAlready
+waits-already = met newId WaitsAlready (λ v f h k q. (left v f k q, λ n. still v f k q n))
+  where
+    left : (v : View) (f : NewConnectionId) → f .seq < v .largestPeerRetirePriorTo → has (f .seq) (v .dcidsToRetire) ≡ true → step v (newId f) .view ≡ v
+    left v f k q =
+        let P : Out → Type 0 = λ o. o .view ≡ v in
+        decided P (v .zeroLengthDcid) (λ e. refl) (λ e.
+        optioned P (first (λ (y : Item). clashes y (itemOf f)) (v .dcids))
+        (λ e. decided P (ltb (f .seq) (f .retirePriorTo)) (λ e. refl) (λ e. rw (lt-ltb (f .seq) (v .largestPeerRetirePriorTo) k, q)))
+        (λ y e. decided P (repeats y (itemOf f)) (λ e. refl) (λ e. refl)))
+
+    still : (v : View) (f : NewConnectionId) → f .seq < v .largestPeerRetirePriorTo → has (f .seq) (v .dcidsToRetire) ≡ true → otherwise v f ≡ false → step v (newId f) ≡ accepted (Retired []) v
+    still v f k q n =
+        let late = lt-ltb (f .seq) (v .largestPeerRetirePriorTo) k in
+        plain v f (λ o. o ≡ accepted (Retired []) v) n (λ c w e. refl) (λ c w e. never (sym q ∙ w)) (λ c e. never (sym late ∙ c)) (λ c e. never (sym late ∙ c))
 
 queue-limited : MetUnless itself unlimited QueueLimited
 queue-limited = met-unless itself QueueLimited unlimited (λ v c h n.
@@ -563,14 +574,13 @@ over-limit = met-unless newId OverLimit unfilled (λ v f h g n l m k.
     let P : Out → Type 0 = Closes CONNECTION-ID-LIMIT-ERROR in
     let b : ℕ = f .retirePriorTo in
     let full : capacityFor (v .dcidLimit) ≤ length (kept v f) = ltb-false (length (kept v f)) (capacityFor (v .dcidLimit)) g in
-    plain v f P n
-    (λ q e. never (sym (and-both (comesLate v f) _ q .0) ∙ l))
-    (λ q e.
-    decided P (ltb queueSlots (length (queued b v))) (λ t. absurd (omega (arith, need-raised v f q e, ltb-true queueSlots (length (queued b v)) t, h .limits .dhigh))) (λ t.
-    decided P (tooMany (lowered b v)) (λ t. absurd (omega (arith, need-raised v f q e, too-many (lowered b v) t))) (λ t.
+    plain v f P n (λ c q e. never (sym c ∙ l)) (λ c q e. never (sym c ∙ l))
+    (λ c e.
+    decided P (ltb queueSlots (length (queued b v))) (λ t. absurd (omega (arith, need-raised v f c e, ltb-true queueSlots (length (queued b v)) t, h .limits .dhigh))) (λ t.
+    decided P (tooMany (lowered b v)) (λ t. absurd (omega (arith, need-raised v f c e, too-many (lowered b v) t))) (λ t.
     decided P (leb (capacityFor (v .dcidLimit)) (length (keep (from b) (v .dcids)))) (λ t. (refl, refl))
     (λ t. absurd (omega (arith, ap length (kept-from v f (ltb-true (v .largestPeerRetirePriorTo) b e)), leb-false (capacityFor (v .dcidLimit)) (length (keep (from b) (v .dcids))) t))))))
-    (λ q e.
+    (λ c e.
     decided P (leb (capacityFor (v .dcidLimit)) (length (v .dcids))) (λ t. (refl, refl))
     (λ t. absurd (omega (arith, ap length (kept-all v f (ltb-false (v .largestPeerRetirePriorTo) b e)), leb-false (capacityFor (v .dcidLimit)) (length (v .dcids)) t)))))
 
@@ -580,16 +590,16 @@ many-to-retire = met-unless newId (TooManyToRetire PROTOCOL-VIOLATION) crowded (
     let P : Out → Type 0 = Closes PROTOCOL-VIOLATION in
     let b : ℕ = f .retirePriorTo in
     let before : length (v .dcidsToRetire) ≤ retireLimit v = ltb-false (retireLimit v) (length (v .dcidsToRetire)) g in
-    plain v f P n
-    (λ q e.
+    plain v f P n (λ c q e. absurd (omega (arith, need-waits v f c q e)))
+    (λ c q e.
     let w : View = withDcidsToRetire (v .dcidsToRetire ++ (f .seq ∷ [])) v in
     decided P (leb queueSlots (length (v .dcidsToRetire))) (λ t. absurd (omega (arith, leb-true queueSlots (length (v .dcidsToRetire)) t, h .limits .dhigh))) (λ t.
-    decided P (tooMany w) (λ t. (refl, refl)) (λ t. absurd (omega (arith, need-late v f q e, not-many w t)))))
-    (λ q e.
+    decided P (tooMany w) (λ t. (refl, refl)) (λ t. absurd (omega (arith, need-late v f c q e, not-many w t)))))
+    (λ c e.
     decided P (ltb queueSlots (length (queued b v)))
     (λ t. absurd (omega (arith, queued-few v b, ltb-true queueSlots (length (queued b v)) t, h .limits .dhigh, h .destination .few))) (λ t.
-    decided P (tooMany (lowered b v)) (λ t. (refl, refl)) (λ t. absurd (omega (arith, need-raised v f q e, not-many (lowered b v) t)))))
-    (λ q e. absurd (omega (arith, need-same v f q e))))
+    decided P (tooMany (lowered b v)) (λ t. (refl, refl)) (λ t. absurd (omega (arith, need-raised v f c e, not-many (lowered b v) t)))))
+    (λ c e. absurd (omega (arith, need-same v f c e))))
   where
     queued-few : (v : View) (b : ℕ) → length (queued b v) ≤ length (v .dcidsToRetire) + length (v .dcids)
     queued-few v b = simp (length-append, length-map) (omega (arith, length-keep (below b) (v .dcids)))
@@ -598,19 +608,132 @@ tracks-twice : MetUnless newId otherwise TracksTwice
 tracks-twice = met-unless newId TracksTwice otherwise (λ v f h n k.
     let P : Out → Type 0 = λ o. (Closes CONNECTION-ID-LIMIT-ERROR o → ⊥) → o .refusal ≡ 0 in
     let b : ℕ = f .retirePriorTo in
-    plain v f P n
-    (λ q e.
-    let w : View = withDcidsToRetire (v .dcidsToRetire ++ (f .seq ∷ [])) v in
-    decided P (leb queueSlots (length (v .dcidsToRetire))) (λ t. absurd (omega (arith, length-append (v .dcidsToRetire) (f .seq ∷ []), need-late v f q e, leb-true queueSlots (length (v .dcidsToRetire)) t, h .limits .dhigh))) (λ t.
-    decided P (tooMany w) (λ t. absurd (omega (arith, need-late v f q e, too-many w t))) (λ t c. refl)))
-    (λ q e.
-    decided P (ltb queueSlots (length (queued b v))) (λ t. absurd (omega (arith, need-raised v f q e, ltb-true queueSlots (length (queued b v)) t, h .limits .dhigh))) (λ t.
-    decided P (tooMany (lowered b v)) (λ t. absurd (omega (arith, need-raised v f q e, too-many (lowered b v) t))) (λ t.
+    plain v f P n (λ c q e z. refl)
+    (λ c q e z. late-fits v f h (omega (arith, length-append (v .dcidsToRetire) (f .seq ∷ []), need-late v f c q e, h .limits .dlow)))
+    (λ c e.
+    decided P (ltb queueSlots (length (queued b v))) (λ t. absurd (omega (arith, need-raised v f c e, ltb-true queueSlots (length (queued b v)) t, h .limits .dhigh))) (λ t.
+    decided P (tooMany (lowered b v)) (λ t. absurd (omega (arith, need-raised v f c e, too-many (lowered b v) t))) (λ t.
     appended (itemOf f) (lowered b v) _)))
-    (λ q e. appended (itemOf f) v []))
+    (λ c e. appended (itemOf f) v []))
   where
     appended : (x : Item) (w : View) (ps : List UsedSeq) → (Closes CONNECTION-ID-LIMIT-ERROR (append x ps w) → ⊥) → append x ps w .refusal ≡ 0
     appended x w ps = decided (λ (o : Out). (Closes CONNECTION-ID-LIMIT-ERROR o → ⊥) → o .refusal ≡ 0) (leb (capacityFor (w .dcidLimit)) (length (w .dcids))) (λ e c. absurd (c (refl, refl))) (λ e c. refl)
+
+-- ---- the same frame again, later
+
+-- the sequence of an item that repeats the frame is there
+repeated-has : (x : Item) (l : List Item) → any (λ (z : Item). repeats z x) l ≡ true → has (x .seq) (map seqOf l) ≡ true
+repeated-has x [] e = never (sym e)
+repeated-has x (y ∷ l) e = test (repeats y x) refl e (repeated-has x l)
+  where
+    test : (b : Bool) → repeats y x ≡ b → (b || any (λ (z : Item). repeats z x) l) ≡ true → (any (λ (z : Item). repeats z x) l ≡ true → has (x .seq) (map seqOf l) ≡ true) → (eqb (x .seq) (y .seq) || has (x .seq) (map seqOf l)) ≡ true
+    test true r e i = rw (eq-eqb (x .seq) (y .seq) (sym (repeats-is y x r .seq)))
+    test false r e i = rw (i e, or-true)
+
+module _ (v : View) (f : NewConnectionId) where
+  -- what a frame that was taken leaves: no zero-length mark, and its sequence in the table or below the largest Retire Prior To
+  record Took (o : Out) : Type 0 where
+    unmarked : o .view .zeroLengthDcid ≡ false
+    knows : known (f .seq) (o .view) ≡ true
+
+  below-known : (w : View) → f .seq < w .largestPeerRetirePriorTo → known (f .seq) w ≡ true
+  below-known w k = rw (lt-ltb (f .seq) (w .largestPeerRetirePriorTo) k, or-true)
+
+  end-known : (l : List Item) (n : ℕ) → (has (f .seq) (map seqOf (l ++ (itemOf f ∷ []))) || ltb (f .seq) n) ≡ true
+  end-known l n = rw (map-more l (itemOf f), has-right (f .seq) (map seqOf l) (f .seq ∷ []) (rw (eq-eqb (f .seq) (f .seq) refl)))
+
+  ends-took : {o : Out} → AddDcidEnds (itemOf f) (f .retirePriorTo) v o → v .zeroLengthDcid ≡ false → held v f ≡ false → o .refusal ≡ 0 → Took o
+  ends-took (rejects n k) m c z = absurd (omega arith)
+  ends-took (again e) m c z = never (sym e ∙ c)
+  ends-took (waits n k q) m c z = record { unmarked = m; knows = below-known v k }
+  ends-took (late4 n k l) m c z = absurd (omega arith)
+  ends-took (late n k l t) m c z = record { unmarked = m; knows = below-known v k }
+  ends-took (lowers n k w u q) m c z = absurd (omega arith)
+  ends-took (renews n u q r t) m c z = record { unmarked = m; knows = end-known (keep (from (f .retirePriorTo)) (v .dcids)) (f .retirePriorTo) }
+  ends-took (adds n u q r) m c z = record { unmarked = m; knows = end-known (v .dcids) (v .largestPeerRetirePriorTo) }
+
+  took : Well v → step v (newId f) .refusal ≡ 0 → Took (step v (newId f))
+  took h = mark (v .zeroLengthDcid) refl
+    where
+      Takes : Out → Type 0
+      Takes o = o .refusal ≡ 0 → Took o
+
+      fresh-took : v .zeroLengthDcid ≡ false → (b : Bool) → repeated v f ≡ b → Takes (step v (newId f))
+      fresh-took m true r = subst Takes (sym (repeat-is-taken v f h m r)) (λ z. record { unmarked = m; knows = rw (repeated-has (itemOf f) (v .dcids) r) })
+      fresh-took m false r = unrepeated Takes v f r (λ z. absurd (omega arith)) (λ c. ends-took (ends v f) m c)
+
+      mark : (b : Bool) → v .zeroLengthDcid ≡ b → Takes (step v (newId f))
+      mark true m = rw m (λ z. absurd (omega arith))
+      mark false m = fresh-took m (repeated v f) refl
+
+  -- where it is known, and nothing of the exception holds, it is taken again
+  welcome : Well v → v .zeroLengthDcid ≡ false → known (f .seq) v ≡ true
+      → (not (repeated v f) && (held v f || (ltb (f .seq) (f .retirePriorTo) || not (has (f .seq) (v .dcidsToRetire)) && leb (retireLimit v) (length (v .dcidsToRetire))))) ≡ false
+      → step v (newId f) .refusal ≡ 0
+  welcome h m k = test (repeated v f) refl
+    where
+      test : (b : Bool) → repeated v f ≡ b
+          → (not b && (held v f || (ltb (f .seq) (f .retirePriorTo) || not (has (f .seq) (v .dcidsToRetire)) && leb (retireLimit v) (length (v .dcidsToRetire))))) ≡ false → step v (newId f) .refusal ≡ 0
+      test true r e = ap (λ (o : Out). o .refusal) (repeat-is-taken v f h m r)
+      test false r e =
+          let u = or-neither (held v f) _ e in
+          let t = or-neither (ltb (f .seq) (f .retirePriorTo)) _ (u .1) in
+          let gone : has (f .seq) (destinations v) ≡ false = has-map (f .seq) (v .dcids) ∙ unheld (itemOf f) (v .dcids) (u .0) in
+          let late : comesLate v f ≡ true = sym (ap (λ (b : Bool). b || comesLate v f) gone) ∙ k in
+          plain v f (λ o. o .refusal ≡ 0) (rw (m, u .0, t .0)) (λ c q i. refl)
+          (λ c q i. late-fits v f h (leb-false (retireLimit v) (length (v .dcidsToRetire)) (sym (ap (λ (b : Bool). not b && leb (retireLimit v) (length (v .dcidsToRetire))) q) ∙ t .1)))
+          (λ c i. never (sym late ∙ c)) (λ c i. never (sym late ∙ c))
+
+same-later : MetUnless sameAgain unwelcome SameFrameLater
+same-later v r h c e z q =
+    let w : View = r .before in
+    let u = or-neither (any setsInitial (r .since)) _ e in
+    let was : (well w ≡ true) × (step w (sameAgain r) .refusal ≡ 0) = accepted-step w (sameAgain r) z in
+    let t : Took w (r .frame) (apply w (sameAgain r)) = subst (Took w (r .frame)) (apply-is w (sameAgain r) (was .0) c) (took w (r .frame) (well-is w (was .0)) (was .1)) in
+    let s : Carried (after w (sameAgain r)) (run (after w (sameAgain r)) (r .since)) = run-carried (r .since) (after w (sameAgain r)) (u .0) in
+    let g : (v .zeroLengthDcid ≡ false) × (known (r .frame .seq) v ≡ true) = rw q (s .mark ∙ t .unmarked, s .knows (r .frame .seq) (t .knows)) in
+    sym (ap (λ (o : Out). o .refusal) (apply-is v (sameAgain r) h c)) ∙ welcome v (r .frame) (well-is v h) (g .0) (g .1) (u .1)
+  where
+    accepted-step : (w : View) (d : Call) → apply w d .refusal ≡ 0 → (well w ≡ true) × (step w d .refusal ≡ 0)
+    accepted-step w d = test (well w) (callFormed d) refl
+      where
+        test : (a b : Bool) → well w ≡ a → cond (a && b) (step w d) (refused 1 w) .refusal ≡ 0 → (well w ≡ true) × (step w d .refusal ≡ 0)
+        test true true p z = (p, z)
+        test true false p z = absurd (omega arith)
+        test false b p z = absurd (omega arith)
+
+-- ---- late sequences, over any calls from fresh
+
+-- a sequence below the largest is in no item, so that no frame of it is a repeat
+unrepeated-late : (v : View) (f : NewConnectionId) → noneBelow v ≡ true → f .seq < v .largestPeerRetirePriorTo → repeated v f ≡ false
+unrepeated-late v f n k = test (repeated v f) refl
+  where
+    all-has : (b s : ℕ) (l : List ℕ) → all (leb b) l ≡ true → has s l ≡ true → b ≤ s
+    all-has b s [] n e = never (sym e)
+    all-has b s (x ∷ l) n e =
+        let w = and-both (leb b x) (all (leb b) l) n in
+        choose (eqb s x) refl e (w .0) (all-has b s l (w .1))
+      where
+        choose : (t : Bool) → eqb s x ≡ t → (t || has s l) ≡ true → leb b x ≡ true → (has s l ≡ true → b ≤ s) → b ≤ s
+        choose true p e q i = omega (arith, eqb-true s x p, leb-true b x q)
+        choose false p e q i = i e
+
+    test : (b : Bool) → repeated v f ≡ b → b ≡ false
+    test true r = absurd (omega (arith, all-has (v .largestPeerRetirePriorTo) (f .seq) (destinations v) n (repeated-has (itemOf f) (v .dcids) r)))
+    test false r = refl
+
+-- so a rule of late frames that is met but for repeats is met over such calls
+met-over : (R : Rule NewConnectionId) → ((v : View) (f : NewConnectionId) (o : Out) → (f .seq < v .largestPeerRetirePriorTo → R v f o) → R v f o) → MetUnless newId repeated R → MetOver newId R
+met-over R of-late m v s cs n f c =
+    let w : View = run v cs in
+    let low : noneBelow w ≡ true = none-below-early v s cs [] (subst (λ (l : List Call). neverAfter setsInitial takesFrame l ≡ true) (sym (append-nil cs)) n) in
+    of-late w f (apply w (newId f)) (λ k. m w f (run-well cs v (fresh-well v s)) c (unrepeated-late w f low k))
+
+late-is-retired : MetUnless newId repeated LateIsRetired
+late-is-retired = met-unless newId LateIsRetired repeated (λ v f h n. unrepeated (LateIsRetired v f) v f n (λ k z. absurd (omega arith)) (λ c. late-retired v f (ends v f) c))
+
+late-is-not-kept : MetUnless newId repeated LateIsNotKept
+late-is-not-kept = met-unless newId LateIsNotKept repeated (λ v f h n. unrepeated (LateIsNotKept v f) v f n (λ k z. absurd (omega arith)) (λ c. late-not-kept v f (ends v f) c))
 
 -- ---- the whole
 
@@ -634,12 +757,17 @@ conforms = record {
   tooManyToRetire = many-to-retire;
   notForgotten = met-unless itself NotForgotten initial (λ v c h i. step-keeps v c i .each);
   zeroLengthDestination = zero-destination;
-  sameFrameAgain = same-again;
+  sameFrameAgain = met newId SameFrameAgain repeat-is-taken;
+  sameFrameLater = same-later;
   conflict = conflicts;
   issuedAboveOwn = met issueId IssuedAboveOwn (λ v i h. own-above v i h (issue-ends v i));
   aboveSequence = above;
   ignores = ignored;
-  lateIsRetired = met-unless newId LateIsRetired repeated (λ v f h n. unrepeated (LateIsRetired v f) v f n (λ k z. absurd (omega arith)) (λ c. late-retired v f (ends v f) c));
+  lateIsRetired = late-is-retired;
+  lateIsNotKept = late-is-not-kept;
+  waitsAlready = waits-already;
+  lateIsRetiredOver = met-over LateIsRetired (λ v f o k l. k l l) late-is-retired;
+  lateIsNotKeptOver = met-over LateIsNotKept (λ v f o k l. k l l) late-is-not-kept;
   tokenEnds = met retireId TokenEnds (λ v f h. token-ends v f (retire-scid-ends (f .seq) (f .packet) v));
   notIssued = not-issued;
   ownPacket = own-packet;
@@ -651,7 +779,6 @@ differs = record {
   encoding = (refl, refl, λ r. omega (arith, r (omega arith) .1));
   overLimit = (refl, refl, λ r. omega (arith, r refl));
   limitNoError = (refl, refl, λ r. never (r refl refl (omega arith) (omega arith) .0));
-  comesBack = (refl, refl, λ r. never (r (omega arith) refl));
   zeroLengthSource = (refl, refl, λ r. omega (arith, r refl .1));
   repeatRaises = (refl, refl, λ r. never (sym (r (omega arith) refl .0)));
   repeatKeepsAll = (refl, refl, λ r. omega (arith, r refl));
@@ -667,10 +794,10 @@ differs = record {
   cannotSupply = (refl, refl, λ r. omega (arith, r refl refl (omega arith)));
   cannotSupplyWithLeave = (refl, refl, λ r. omega (arith, r refl refl (omega arith)));
   forgets = (refl, refl, λ r. never (sym (r 1 refl)));
+  forgottenFrame = (refl, refl, λ r. omega (arith, r refl refl));
   cutsLonger = (refl, refl, λ r. never (r (omega arith) .0));
   retireRefused = (refl, refl, λ r. omega (arith, r _ (omega arith) refl refl));
   onlyOwnPacket = (refl, refl, λ r. omega (arith, r _ refl refl .1));
-  sameFrameRefused = (refl, refl, λ r. omega (arith, r (ids 1) (newId (dcid 3 1 1) ∷ []) refl refl));
   raisesAgain = (refl, refl, λ r. omega (arith, r refl));
   offersRetired = (refl, refl, λ r. never (r refl 0 refl));
   issuedTwice = (refl, refl, λ r. never (r refl));
@@ -681,4 +808,6 @@ differs = record {
   movesPath = (refl, refl, λ r. never (r refl));
   movesOwnPath = (refl, refl, λ r. never (r refl));
   lateRepeat = (refl, refl, λ r. never (sym (r (omega arith) refl)));
+  lateKept = (refl, refl, λ r. never (r (omega arith) refl));
+  retiredFrame = (refl, refl, λ r. omega (arith, r refl refl));
 }

@@ -142,11 +142,12 @@ addsOurs b =
 abbrev pub addsTheirs : Bool → List Row
 addsTheirs a =
     stays (many a true) (AddDcid (cid 90) 10 (token 91) 8) 4
-    -- added; with a raised Retire Prior To; late and not queued, late and queued
+    -- added; with a raised Retire Prior To; late and not queued, late and queued; queued and not late
     ∷ gives (many a false) (AddDcid (cid 90) 10 (token 91) 0) (Retired []) (of S (D ++ (put 10 none ∷ [])) 5 4 9 a false 7 3 5 A R)
     ∷ gives (many a false) (AddDcid (cid 90) 10 (token 91) 8) (Retired (record { seq = 7; path = 14 } ∷ [])) (of S (theirs 9 (some 13) ∷ put 10 none ∷ []) 5 4 9 a false 7 3 8 A (4 ∷ 1 ∷ 31 ∷ 4 ∷ 4 ∷ 7 ∷ 6 ∷ []))
     ∷ gives (many a false) (AddDcid (cid 90) 0 (token 91) 0) (Retired []) (of S D 5 4 9 a false 7 3 5 A (4 ∷ 1 ∷ 31 ∷ 4 ∷ 0 ∷ []))
-    ∷ gives (many a false) (AddDcid (cid 90) 1 (token 91) 0) (Retired []) (of S (D ++ (put 1 none ∷ [])) 5 4 9 a false 7 3 5 A R)
+    ∷ says (many a false) (AddDcid (cid 90) 1 (token 91) 0) (Retired [])
+    ∷ gives (many a false) (AddDcid (cid 90) 31 (token 91) 0) (Retired []) (of S (D ++ (put 31 none ∷ [])) 5 4 9 a false 7 3 5 A R)
     -- a repeat of an item in use, with a path and a higher Retire Prior To; another token; the token of another ID, of ours, an ID of ours
     ∷ says (many a false) (AddDcid (cid 47) 7 (token 67) 7) (Retired [])
     ∷ stays (many a false) (AddDcid (cid 47) 7 (token 66) 7) 4

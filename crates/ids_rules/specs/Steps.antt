@@ -135,11 +135,11 @@ raise x b v =
     cond (ltb queueSlots (length (v .dcidsToRetire ++ map seqOf (keep (below b) (v .dcids))))) (refused 6 v)
     (cond (tooMany (lowered b v)) (refused 4 (lowered b v)) (append x (pairs (keep (below b) (v .dcids))) (lowered b v)))
 
--- Retire Prior To > sequence: 4. Sequence below the largest Retire Prior To and not queued: queue it
+-- Retire Prior To > sequence: 4. Sequence below the largest Retire Prior To: if it is queued, success, nothing changed [10]; if not, queue it
 abbrev pub addNew : Item → ℕ → View → Out
 addNew x b v =
     cond (ltb (x .seq) b) (refused 4 v)
-    (cond (ltb (x .seq) (v .largestPeerRetirePriorTo) && not (has (x .seq) (v .dcidsToRetire))) (queueLate (x .seq) v)
+    (cond (ltb (x .seq) (v .largestPeerRetirePriorTo)) (cond (has (x .seq) (v .dcidsToRetire)) (accepted (Retired []) v) (queueLate (x .seq) v))
     (cond (ltb (v .largestPeerRetirePriorTo) b) (raise x b v) (append x [] v)))
 
 -- zero-length: 4. The first item with equal ID or sequence: if ID, sequence or token differs, 4, else success, nothing changed

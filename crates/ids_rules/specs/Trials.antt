@@ -106,7 +106,7 @@ table =
     ∷ row 4 4 [] (retire 0) (ours 2 Nothing 2 3 0 (0 ∷ []))
     ∷ row 4 4 (retire 0 ∷ []) (retire 1) (ours 4 Nothing 2 3 0 (0 ∷ []))
     ∷ row 5 2 (initial ∷ []) (peer 1 1) (theirs 0 (Retired (record { seq = 0; path = 0 } ∷ [])) (1 ∷ []) (0 ∷ []))
-    ∷ row 6 2 (initial ∷ peer 1 1 ∷ []) (peer 0 0) (theirs 0 (Retired []) (1 ∷ 0 ∷ []) (0 ∷ []))
+    ∷ row 6 2 (initial ∷ peer 1 1 ∷ []) (peer 0 0) (theirs 0 (Retired []) (1 ∷ []) (0 ∷ []))
     ∷ row 7 2 (initial ∷ peer 1 1 ∷ MarkDcidToRetire 0 false ∷ []) (peer 0 0) (theirs 0 (Retired []) (1 ∷ []) (0 ∷ []))
     ∷ row 8 1 late (peer 3 0) (theirs 0 (Retired []) (10 ∷ []) (0 ∷ 1 ∷ 2 ∷ 3 ∷ []))
     ∷ row 8 1 (late ++ (peer 3 0 ∷ [])) (peer 4 0) (theirs 4 Nothing (10 ∷ []) (0 ∷ 1 ∷ 2 ∷ 3 ∷ 4 ∷ []))

@@ -148,7 +148,8 @@ pub extern "C" fn vig_ids_add_scid(
     a.answer
 }
 
-// A NEW_CONNECTION_ID frame: the answer is what it retired of the IDs in use.
+// A NEW_CONNECTION_ID frame: the answer is what it retired of the IDs in use. One below an earlier Retire Prior To gives no ID: it is queued to be retired, or
+// waits there already and changes nothing [10].
 #[no_mangle]
 pub extern "C" fn vig_ids_add_dcid(
     t: &mut Ids,

@@ -49,7 +49,8 @@ impl State for Ids {
     fn hints(&self, random: &mut Random) -> Hints {
         let table = random.pick(&[&self.scids, &self.dcids]);
         let item = random.pick(&table.items[..table.count.clamp(1, 31)]);
-        let queued = random.pick(&[self.scids_to_advertise.items[0], self.dcids_to_retire.items[0]]);
+        let queue = random.pick(&[&self.scids_to_advertise, &self.dcids_to_retire]);
+        let queued = random.pick(&queue.items[..queue.count.clamp(1, 128)]);
         let number = random.pick(&[item.seq, item.seq, item.seq, self.next_scid_seq, self.retire_prior_to, self.largest_peer_retire_prior_to, queued]);
         Hints { number, cid: item.cid, ..NO_HINTS }
     }
@@ -68,6 +69,14 @@ impl State for Ids {
             _ if random.flag() => damage_table(&mut self.scids, random),
             _ => damage_table(&mut self.dcids, random),
         }
+    }
+
+    /// No frame brings a sequence below the largest Retire Prior To into the table [10]. One that stands there already may stay.
+    fn against(call: &str, before: &Ids, after: &Ids) -> Option<&'static str> {
+        let live = |table: &Table| table.items.iter().take(table.count).map(|item| item.seq).collect::<Vec<_>>();
+        let held = live(&before.dcids);
+        let below = live(&after.dcids).iter().any(|seq| !held.contains(seq) && *seq < after.largest_peer_retire_prior_to);
+        (call == "vig_ids_add_dcid" && below).then_some("and a retired sequence has come into the table")
     }
 }
 
