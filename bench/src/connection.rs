@@ -24,6 +24,11 @@ pub mod cid {
     use crate::ffi::{ConnectionId as Id, Ids, Item, Queue, Table, Token};
 
     impl ConnectionIdMgr {
+        /// What a host of the Rust asks before it reports a frame, so that one that waits to be retired changes nothing.
+        pub fn waits(&self, seq: u64) -> bool {
+            seq < self.largest_peer_retire_prior_to && self.dcids_to_retire.contains(&seq)
+        }
+
         /// What ours would be in its place.
         pub fn seen(&self) -> Ids {
             let item = |place: Option<&ConnectionIdItem>| {

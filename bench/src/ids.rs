@@ -312,7 +312,8 @@ pub fn area<const FULL: bool>() -> Area {
         true => (
             "IDs full",
             "31 source and 31 destination IDs, limits 16 and 16, 15 sequences to announce and 8 to retire; for the calls that \
-             add, 30 and 30 IDs. The last item is looked for; \"retiring\" moves 16 items, and \"off\" finds the last entry",
+             add, 30 and 30 IDs. The last item is looked for; \"retiring\" moves 16 items, \"waiting\" is the frame of the last \
+             sequence to retire (the Rust is asked only after a look for it in its queue), and \"off\" finds the last entry",
         ),
     };
     let state = format!("{state}. IDs of 8 bytes; {ours} bytes of state, the Rust's own {rust} and what they point to");
@@ -481,6 +482,18 @@ fn rows(full: bool) -> Vec<Row> {
             |s, (cid, seq, token, rpt)| vig_ids_add_dcid(s, cid, seq, token.given(), rpt),
             |s, (cid, seq, token, rpt)| val_ids_add_dcid(*s, cid, seq, token.given(), rpt),
             |m, (cid, seq, token, rpt)| m.add_dcid(cid, seq, token, rpt),
+        );
+    }
+    if full {
+        let seq = RETIRED - 1;
+        let ((cid, rust_cid), (key, rust_key)) = (id(DESTINATION, seq), token(DESTINATION, seq));
+        r.add(
+            "add_dcid, waiting",
+            ((cid, seq, key), (rust_cid, seq, rust_key)),
+            |(cid, ..)| cid.formed(),
+            |s, (cid, seq, token)| vig_ids_add_dcid(s, cid, seq, token.given(), 0),
+            |s, (cid, seq, token)| val_ids_add_dcid(*s, cid, seq, token.given(), 0),
+            |m, (cid, seq, token)| if m.waits(seq) { Ok(vec![]) } else { m.add_dcid(cid, seq, token, 0) },
         );
     }
     let (packet, rust_packet) = id(SOURCE, source);

@@ -139,19 +139,19 @@ Closes code o = (eqb (o .refusal) 0 ≡ false) × (wireCode (o .refusal) ≡ cod
 abbrev pub Rule : Type 0 → Type 1
 Rule A = View → A → Out → Type 0
 
--- on every well-formed view, whatever came in its form, the call meets the rule; it does but where the exception holds; below, at v and f, which are such, it does not
+-- on every well-formed view, whatever came in its form, the call meets the rule; it does but where the exception holds; at v and f, which are such, it does not
 abbrev pub Met : {A : Type 0} → (A → Call) → Rule A → Type 0
 Met {A} call R = (v : View) (f : A) → well v ≡ true → callFormed (call f) ≡ true → R v f (apply v (call f))
 
 abbrev pub MetUnless : {A : Type 0} → (A → Call) → (View → A → Bool) → Rule A → Type 0
 MetUnless {A} call E R = (v : View) (f : A) → well v ≡ true → callFormed (call f) ≡ true → E v f ≡ false → R v f (apply v (call f))
 
+abbrev pub DiffersAt : {A : Type 0} → (A → Call) → Rule A → View → A → Type 0
+DiffersAt call R v f = (well v ≡ true) × (callFormed (call f) ≡ true) × (R v f (apply v (call f)) → ⊥)
+
 -- whatever calls came before from a fresh state, refused ones too, where no set_initial_dcid came after an add_dcid, the call meets the rule
 abbrev pub MetOver : {A : Type 0} → (A → Call) → Rule A → Type 0
 MetOver {A} call R = (v : View) → Starts v → (cs : List Call) → neverAfter setsInitial takesFrame cs ≡ true → (f : A) → callFormed (call f) ≡ true → R (run v cs) f (apply (run v cs) (call f))
-
-abbrev pub DiffersAt : {A : Type 0} → (A → Call) → Rule A → View → A → Type 0
-DiffersAt call R v f = (well v ≡ true) × (callFormed (call f) ≡ true) × (R v f (apply v (call f)) → ⊥)
 
 -- ---- 5.1.1, issuing
 
@@ -337,9 +337,11 @@ SameFrameLater v r o = apply (r .before) (sameAgain r) .refusal ≡ 0 → v ≡ 
 
 -- the exception: set_initial_dcid emptied the table since (D14). Or, where the table does not hold it as it came: its ID or its sequence came otherwise since (`Conflict`); its
 -- Retire Prior To is above its sequence (`AboveSequence`); or it was retired, waits no more, and as many wait as may (D44)
+abbrev pub spoilt : View → NewConnectionId → Bool
+spoilt v f = not (repeated v f) && (held v f || (ltb (f .seq) (f .retirePriorTo) || (not (has (f .seq) (v .dcidsToRetire)) && leb (retireLimit v) (length (v .dcidsToRetire)))))
+
 abbrev pub unwelcome : View → Again → Bool
-unwelcome v r = any setsInitial (r .since)
-    || not (repeated v (r .frame)) && (held v (r .frame) || (ltb (r .frame .seq) (r .frame .retirePriorTo) || not (has (r .frame .seq) (v .dcidsToRetire)) && leb (retireLimit v) (length (v .dcidsToRetire))))
+unwelcome v r = any setsInitial (r .since) || spoilt v (r .frame)
 
 -- an ID with another token or sequence, or a sequence with another ID, MAY be a PROTOCOL_VIOLATION: here it is
 abbrev pub Conflict : Rule NewConnectionId

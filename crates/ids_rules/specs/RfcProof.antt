@@ -30,7 +30,7 @@ use Rattle.ids_rules.specs.Never.{fresh-well, run-well}
 use Rattle.ids_rules.specs.Promise.{setsInitial, takesFrame, destinations, noneBelow, neverAfter}
 use Rattle.ids_rules.specs.Once.{without-gap, has-map, map-more, begun}
 use Rattle.ids_rules.specs.Below.{has-right, has-below, has-from, by-frame, Aside, step-aside, known, Carried, run-carried, none-below-early}
-use Rattle.ids_rules.specs.Rfc.{NewConnectionId, RetireConnectionId, Issue, newId, retireId, issueId, initialId, itself, Again, sameAgain, itemOf, Closes, Rule, Met, MetUnless, MetOver, held, repeated, increases, comesLate, kept, inNeed, retireLimit, filled, unfilled, excess, noRoom, marking, crowded, unlimited, otherwise, unwelcome, only, noneLeft, active, initial, retiring}
+use Rattle.ids_rules.specs.Rfc.{NewConnectionId, RetireConnectionId, Issue, newId, retireId, issueId, initialId, itself, Again, sameAgain, itemOf, Closes, Rule, Met, MetUnless, MetOver, held, repeated, increases, comesLate, kept, inNeed, retireLimit, filled, unfilled, excess, noRoom, marking, crowded, unlimited, otherwise, spoilt, unwelcome, only, noneLeft, active, initial, retiring}
 use Rattle.ids_rules.specs.Rfc.{InitialIsZero, AcceptedUntilRetired, OthersStay, WithinPeerLimit, WithinLimit, OverLimit, Supplies, TotalLimited, IssuanceLimited, ZeroLengthIssues, LowerAreRetired, QueueLimited, TracksTwice, TooManyToRetire, NotForgotten}
 use Rattle.ids_rules.specs.Rfc.{ZeroLengthDestination, SameFrameAgain, SameFrameLater, Conflict, IssuedAboveOwn, AboveSequence, Ignores, LateIsRetired, LateIsNotKept, WaitsAlready, TokenEnds, NotIssued, OwnPacket, GivenIsRetired, Conforms, Differs, cid, token, ids, dcid}
 
@@ -667,13 +667,11 @@ module _ (v : View) (f : NewConnectionId) where
       mark false m = fresh-took m (repeated v f) refl
 
   -- where it is known, and nothing of the exception holds, it is taken again
-  welcome : Well v → v .zeroLengthDcid ≡ false → known (f .seq) v ≡ true
-      → (not (repeated v f) && (held v f || (ltb (f .seq) (f .retirePriorTo) || not (has (f .seq) (v .dcidsToRetire)) && leb (retireLimit v) (length (v .dcidsToRetire))))) ≡ false
-      → step v (newId f) .refusal ≡ 0
+  welcome : Well v → v .zeroLengthDcid ≡ false → known (f .seq) v ≡ true → spoilt v f ≡ false → step v (newId f) .refusal ≡ 0
   welcome h m k = test (repeated v f) refl
     where
       test : (b : Bool) → repeated v f ≡ b
-          → (not b && (held v f || (ltb (f .seq) (f .retirePriorTo) || not (has (f .seq) (v .dcidsToRetire)) && leb (retireLimit v) (length (v .dcidsToRetire))))) ≡ false → step v (newId f) .refusal ≡ 0
+          → (not b && (held v f || (ltb (f .seq) (f .retirePriorTo) || (not (has (f .seq) (v .dcidsToRetire)) && leb (retireLimit v) (length (v .dcidsToRetire)))))) ≡ false → step v (newId f) .refusal ≡ 0
       test true r e = ap (λ (o : Out). o .refusal) (repeat-is-taken v f h m r)
       test false r e =
           let u = or-neither (held v f) _ e in
