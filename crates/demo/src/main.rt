@@ -143,7 +143,8 @@ fn main() {
     );
     let s = renewed(s, 4, 3, 2);
     let t = takes(t, s);
-    let s = held_up(s);
+    let m = ids::mark_dcid_used(s, 2, 1);
+    let s = held_up(m.ids);
     let s = retired(s);
     tell::say(b"\nA mistake of the host changes nothing: ");
     let bad = paths::set_active(t, 7, true);

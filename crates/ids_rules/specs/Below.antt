@@ -7,13 +7,13 @@ use mathlib.Core.Bool.{Bool, true, false, cond, not, _&&_, _||_, or-true}
 use native.Mathlib.Omega.{arith}
 use lib.ListN.{length, drop}
 use lib.Dec.{eqb, leb, ltb}
-use borrow.Author.Tests.{leb-true, leb-false, ltb-true, ltb-false, eqb-true, eq-eqb, le-leb, lt-ltb, not-true}
+use borrow.Author.Tests.{leb-true, leb-false, ltb-true, eqb-true, le-leb, lt-ltb, not-true}
 use Rattle.lists.specs.Defs.{keep, any, all, has}
 use Rattle.values.specs.declared.cid.ConnectionId.{ConnectionId}
 use Rattle.values.specs.Limits.{queueSlots}
 use Rattle.ids_rules.specs.Values.{Item, seqOf, hasSeq, from, below}
-use Rattle.ids_rules.specs.View.{View, Nothing, Out, refused, accepted}
-use Rattle.ids_rules.specs.Steps.{fresh, freshFormed, zeroView, lowered}
+use Rattle.ids_rules.specs.View.{View, Out}
+use Rattle.ids_rules.specs.Steps.{freshFormed, lowered}
 use Rattle.ids_rules.specs.Ends.{AddScidEnds, refuses, raises, issues, RetireScidEnds, unissued, only, absent, out, frees, AddDcidEnds, rejects, again, waits, late4, late, lowers, renews, adds, add-scid-ends, retire-scid-ends, add-dcid-ends}
 use Rattle.ids_rules.specs.Well.{well}
 use Rattle.ids_rules.specs.Calls.{Call, SetInitialDcid, SetScidLimit, AddScid, RetireScid, AddDcid, MarkScidUsed, MarkDcidUsed, MarkScidToAdvertise, MarkDcidToRetire, Ask, callFormed, step, after, run}

@@ -3,7 +3,7 @@
 -- RfcProof.antt.
 use Prim.Native.Nat.{ℕ, _+_, _*_, _≤_, _<_}
 use mathlib.Core.Path.{_≡_}
-use mathlib.Core.List.{List, [], _∷_, map}
+use mathlib.Core.List.{List, [], _∷_}
 use mathlib.Core.Bool.{Bool, true, false, cond, not, _&&_, _||_}
 use mathlib.Core.Option.{Option, none, some}
 use lib.ListN.{length, replicate}
@@ -13,7 +13,7 @@ use Rattle.values.specs.declared.cid.ConnectionId.{ConnectionId}
 use Rattle.values.specs.Cid.{cidNew, zeroId, sameId}
 use Rattle.values.specs.Limits.{maxCidLen, tokenLen, minScidLimit, maxCidsCount, maxSequence, queueSlots, retireFactor, capacityFor}
 use Rattle.values.specs.Refusals.{wireCode, CONNECTION-ID-LIMIT-ERROR, PROTOCOL-VIOLATION}
-use Rattle.ids_rules.specs.Values.{Item, seqOf, hasSeq, hasCid, from, below, clashes, sharedToken, repeats}
+use Rattle.ids_rules.specs.Values.{Item, hasSeq, hasCid, from, below, clashes, sharedToken, repeats}
 use Rattle.ids_rules.specs.View.{View, Out, Issued, Retired, Perhaps, Frame, accepted}
 use Rattle.ids_rules.specs.Steps.{fresh, sole, without, lowestFrom}
 use Rattle.ids_rules.specs.Well.{well}

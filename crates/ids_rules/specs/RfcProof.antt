@@ -29,10 +29,10 @@ use Rattle.ids_rules.specs.Kept.{Well, well-is, raised-le}
 use Rattle.ids_rules.specs.Never.{fresh-well, run-well}
 use Rattle.ids_rules.specs.Promise.{setsInitial, takesFrame, destinations, noneBelow, neverAfter}
 use Rattle.ids_rules.specs.Once.{without-gap, has-map, map-more, begun}
-use Rattle.ids_rules.specs.Below.{has-right, has-below, has-from, by-frame, Aside, step-aside, known, Carried, run-carried, none-below-early}
-use Rattle.ids_rules.specs.Rfc.{NewConnectionId, RetireConnectionId, Issue, newId, retireId, issueId, initialId, itself, Again, sameAgain, itemOf, Closes, Rule, Met, MetUnless, MetOver, held, repeated, increases, comesLate, kept, inNeed, retireLimit, filled, unfilled, excess, noRoom, marking, crowded, unlimited, otherwise, spoilt, unwelcome, only, noneLeft, active, initial, retiring}
+use Rattle.ids_rules.specs.Below.{has-right, has-below, has-from, by-frame, step-aside, known, Carried, run-carried, none-below-early}
+use Rattle.ids_rules.specs.Rfc.{NewConnectionId, RetireConnectionId, Issue, newId, retireId, issueId, initialId, itself, sameAgain, itemOf, Closes, Rule, Met, MetUnless, MetOver, held, repeated, increases, comesLate, kept, inNeed, retireLimit, filled, unfilled, excess, noRoom, marking, crowded, unlimited, otherwise, spoilt, unwelcome, only, noneLeft, active, initial, retiring}
 use Rattle.ids_rules.specs.Rfc.{InitialIsZero, AcceptedUntilRetired, OthersStay, WithinPeerLimit, WithinLimit, OverLimit, Supplies, TotalLimited, IssuanceLimited, ZeroLengthIssues, LowerAreRetired, QueueLimited, TracksTwice, TooManyToRetire, NotForgotten}
-use Rattle.ids_rules.specs.Rfc.{ZeroLengthDestination, SameFrameAgain, SameFrameLater, Conflict, IssuedAboveOwn, AboveSequence, Ignores, LateIsRetired, LateIsNotKept, WaitsAlready, TokenEnds, NotIssued, OwnPacket, GivenIsRetired, Conforms, Differs, cid, token, ids, dcid}
+use Rattle.ids_rules.specs.Rfc.{ZeroLengthDestination, SameFrameAgain, SameFrameLater, Conflict, IssuedAboveOwn, AboveSequence, Ignores, LateIsRetired, LateIsNotKept, WaitsAlready, TokenEnds, NotIssued, OwnPacket, GivenIsRetired, Conforms, Differs, cid, token}
 
 -- a call with arguments of their form, on a well-formed view, is its step
 apply-is : (v : View) (c : Call) → well v ≡ true → callFormed c ≡ true → step v c ≡ apply v c
