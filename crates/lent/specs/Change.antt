@@ -4,7 +4,7 @@
 -- Assumes nothing.
 use Rattle.std.specs.Prelude.{◌≡◌, refl, ℕ, List, [], ◌∷◌}
 use seplogic.Ra.Ura.{Ura}
-use mir.Syntax.{Name, Fn, named}
+use mir.Syntax.{Callee, Fn, named}
 use mir.Val.{Val, vptr}
 use base.Logic.{SProp, ent, emp, via, fst∗, snd∗, ex_e}
 use base.Fml.{GName, Lft, Share, ftrue, flft, fobs, fbor}
@@ -115,23 +115,23 @@ module _ (c : Call) where
   its r v got = LL.owed A.T A.L r (v ∷ []) got
 
   -- what a walk of the function's code shows
-  abbrev pub Walked : (Name → Fn) → Type 2
+  abbrev pub Walked : (Callee → Fn) → Type 2
   Walked code = (M : Type 1) (𝓤 : Ura M) (𝓛 : Logic 𝓤) (κ : Lft) (q : Share) (b o : ℕ) (γ : GName) (h : S.T.D) (a : Denots (Ts 1 (κ, tt) Ps)) (ok : Fine Ps (out 1 (κ, tt) Ps a))
-      (C : Calls 𝓤 𝓛.H) (Λ : Loops 𝓤 𝓛.H) → FmC 𝓤 𝓛.H 𝓛.laws C → (#g : Name) → Triple 𝓤 (C #g) (G 𝓛)
+      (C : Calls 𝓤 𝓛.H) (Λ : Loops 𝓤 𝓛.H) → FmC 𝓤 𝓛.H 𝓛.laws C → (#g : Callee) → Triple 𝓤 (C #g) (G 𝓛)
       → ent 𝓤 (on_entry 𝓛 f_ended.signature (κ, tt) (q, tt) (record { ref_ptr = (b, o); ghost_name = γ; now = h }, a) (vptr b o ∷ [], told 1 (κ, tt) Ps a)) (WpFn 𝓤 𝓛.H C Λ (code #g) (vptr b o ∷ flat (Ts 1 (κ, tt) Ps) (told 1 (κ, tt) Ps a)) (Post' 𝓛 κ h a q b o γ))
 
   -- the theorem, of a function #f with that code and of a callee #g with that contract
-  abbrev pub Theorem : (Name → Fn) → Type 2
-  Theorem code = (#f #g : Name) (env : Meaning) (g : Routine) → env #g ≡ g
+  abbrev pub Theorem : (Callee → Fn) → Type 2
+  Theorem code = (#f #g : Callee) (env : Meaning) (g : Routine) → env #g ≡ g
       → ((M : Type 1) (𝓤 : Ura M) (H : Heap 𝓤) (𝓜 : Model 𝓤 H) (𝓡 : Running 𝓤 H 𝓜) → Closed 𝓤 H (tables 𝓤 H 𝓜 𝓡 env).C (tables 𝓤 H 𝓜 𝓡 env).Λ #f (code #g))
       → ((M : Type 1) (𝓤 : Ura M) (𝓛 : Logic 𝓤) (𝓜 : Model 𝓤 𝓛.H) (𝓡 : Running 𝓤 𝓛.H 𝓜) → Triple 𝓤 (𝓡.run g) (G 𝓛))
       → (M : Type 1) (𝓤 : Ura M) (𝓛 : Logic 𝓤) (𝓜 : Model 𝓤 𝓛.H) (𝓡 : Running 𝓤 𝓛.H 𝓜) → Meets 𝓛 f_ended.signature (𝓡.run (env #f)) (closing 𝓛 f_ended (f_clauses 𝓤))
 
-  module _ (code : Name → Fn) (walk : Walked code) where
+  module _ (code : Callee → Fn) (walk : Walked code) where
     module _ {M : Type 1} {𝓤 : Ura M} (𝓛 : Logic 𝓤) where
       open 𝓛 use {H}
 
-      walks : (C : Calls 𝓤 H) (Λ : Loops 𝓤 H) → FmC 𝓤 H 𝓛.laws C → (#g : Name) → Triple 𝓤 (C #g) (G 𝓛) → Walks 𝓛 f_ended stayed (WpFn 𝓤 H C Λ (code #g)) (f_clauses 𝓤)
+      walks : (C : Calls 𝓤 H) (Λ : Loops 𝓤 H) → FmC 𝓤 H 𝓛.laws C → (#g : Callee) → Triple 𝓤 (C #g) (G 𝓛) → Walks 𝓛 f_ended stayed (WpFn 𝓤 H C Λ (code #g)) (f_clauses 𝓤)
       walks C Λ fm #g known = walked 𝓛 f_ended stayed (f_clauses 𝓤) (WpFn 𝓤 H C Λ (code #g))
           (λ κs. (mut_vals, spell 1 κs Ps)) (λ κs. (mut_Tells (named 0) κs.0 (row (kind S)), tell 1 κs Ps))
           (λ κs qs bounds a _ are. via 𝓤 _ (fst∗ 𝓤 _ (emp 𝓤)) (walk M 𝓤 𝓛 κs.0 qs.0 a.0.ref_ptr.0 a.0.ref_ptr.1 a.0.ghost_name a.0.now a.1 (fine 1 κs Ps a.1 are.1) C Λ fm #g known))
@@ -139,7 +139,7 @@ module _ (c : Call) where
       goes : AllGo 𝓛 1 f_ended.signature.params f_ended.kept stayed
       goes = (Goes-ref 𝓛 1 0 tt (plain (λ _. row (kind S))), all_go 𝓛 1 Ps)
 
-      meets : (𝓣 : Tables 𝓤 H) (#g : Name) → Triple 𝓤 (𝓣.C #g) (G 𝓛) → Meets 𝓛 f_ended.signature (WpFn 𝓤 H 𝓣.C 𝓣.Λ (code #g)) (closing 𝓛 f_ended (f_clauses 𝓤))
+      meets : (𝓣 : Tables 𝓤 H) (#g : Callee) → Triple 𝓤 (𝓣.C #g) (G 𝓛) → Meets 𝓛 f_ended.signature (WpFn 𝓤 H 𝓣.C 𝓣.Λ (code #g)) (closing 𝓛 f_ended (f_clauses 𝓤))
       meets 𝓣 #g known = walk_Meets 𝓛 f_ended stayed goes (f_clauses 𝓤) (WpFn 𝓤 H 𝓣.C 𝓣.Λ (code #g)) (WpFn-mono 𝓤 H 𝓛.laws 𝓣 (code #g)) (walks 𝓣.C 𝓣.Λ (fm_of 𝓤 H 𝓛.laws 𝓣) #g known)
 
     pub keeps : Theorem code

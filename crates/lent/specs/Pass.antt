@@ -4,10 +4,10 @@
 use Rattle.std.specs.Prelude.{◌≡◌, refl, ℕ, suc, List, [], ◌∷◌}
 use Rattle.std.proofs.Common.{subst}
 use seplogic.Ra.Ura.{Ura}
-use mir.Syntax.{Name, Fn, local, value_local, named, erased, mut, ty_ref, deref, place, copy, addr_of, seq, assign, call, return}
+use mir.Syntax.{Callee, Fn, local, value_local, named, erased, mut, ty_ref, deref, place, copy, addr_of, seq, assign, call, return}
 use mir.Val.{Val, vptr}
 use base.Logic.{SProp, ent, emp, via, fst∗, id⊢}
-use base.Fml.{GName, Lft, Share, ftrue, flft, fres}
+use base.Fml.{GName, Lft, Share, ftrue, fsep, flft, fres, fbor}
 use prog.Routine.{Routine, Env as Meaning}
 use prog.Model.{Model}
 use prog.Wp.{Heap, Calls, Loops, WpFn, Closed, Tables}
@@ -16,10 +16,11 @@ use contract.Monad.{fact}
 use contract.Running.{Running, tables, tables_of}
 use types.Kit.{‵, raw, some, later, ◌⊛◌, ⋆, ◌$◌, ◌∵◌, !, qed, by, move, keep, drop, use0, use1, use2, split, join, pick, fsplit, fjoin, suffices, frame, await, done}
 use types.Run.{look, init, forget, stop, hop, from, load, addr, and_then, assigns, land, returns, enter, alloc1, alloc0, params1, pass1, free1, free0}
+use types.SemTy.{Body as Lies}
 use sound.WpLaws.{FmC, fm_of, WpFn-mono}
 use denote.RattleType.{Denots, flat, owns}
 use denote.Laws.{Is, shows}
-use denote.Memory.{pointee}
+use denote.Memory.{mem, pointee}
 use denote.Ref.{MutBor, MutRef, mut_vals, mut_Tells}
 use denote.Signature.{plain, mut_ref_to}
 use denote.Steps.{peeks, heard}
@@ -35,10 +36,12 @@ use Rattle.lent.specs.Kind.{Kind, row, Args, Fine, slots, kepts, stays, Ts, out,
 
 module _ (S : Kind) (Ps : List Kind) (R : Kind) where
   -- f's code, over g's name: after the parameters stands the reference that is passed on
-  abbrev pub code : Name → Fn
+  abbrev pub code : Callee → Fn
   code #g = record {
     lifetimes = 1;
     outlives = [];
+    ty_params = [];
+    givens = 0;
     params = suc (count Ps);
     locals = local R.τ value_local ∷ local (ty_ref (named 0) mut (pointee S.written)) value_local ∷ locals Ps (local (ty_ref erased mut (pointee S.written)) value_local ∷ []);
     body = seq (assign (place (suc (suc (past Ps 0))) []) (addr_of (place 1 (deref S.τ ∷ []))))
@@ -86,14 +89,14 @@ module _ (S : Kind) (Ps : List Kind) (R : Kind) where
             use0 𝓛 (‵ (owns (Ts 1 (κ, tt) Ps) b_args (told 1 (κ, tt) Ps b_args))) (owns_all 1 (κ, tt) 𝓛 Ps p ok) $
             move ! (2 ∷ 0 ∷ []) $ fjoin ! $ move ! (1 ∷ 0 ∷ []) $ join ! $ frame ! $ done !
 
-        -- what says the last value is all that is had of the reference
-        exits : (r : R.D) (u : S.D) (v : Val) → Says h p r u → ent 𝓤 (⋆ 𝓛 ((‵ (flft κ q) ⊛ ‵ ftrue) ∷ ‵ (fres γ (S.coded.code u)) ∷ ‵ (R.own r (v ∷ [])) ∷ [])) (Post v)
+        -- what says the last value, and the borrow that comes back, are all that is had of the reference
+        exits : (r : R.D) (u : S.D) (v : Val) → Says h p r u → ent 𝓤 (⋆ 𝓛 ((‵ (flft κ q) ⊛ ‵ ftrue) ∷ ‵ (fsep (fres γ (S.coded.code u)) (fbor κ (Lies (mem (row S)) b o γ))) ∷ ‵ (R.own r (v ∷ [])) ∷ [])) (Post v)
         exits r u v e =
-            qed 𝓛 ((‵ (flft κ q) ⊛ ‵ ftrue) ∷ ‵ (fres γ (S.coded.code u)) ∷ ‵ (R.own r (v ∷ [])) ∷ []) ∵
+            qed 𝓛 ((‵ (flft κ q) ⊛ ‵ ftrue) ∷ ‵ (fsep (fres γ (S.coded.code u)) (fbor κ (Lies (mem (row S)) b o γ))) ∷ ‵ (R.own r (v ∷ [])) ∷ []) ∵
             suffices ! _ (ends_at 𝓛 ended stayed (clauses Ends 𝓤) (((κ, tt), (q, tt), tt, (ref, a), (vptr b o ∷ [], told 1 (κ, tt) Ps a)), tt) v r (u, none_last 1 (κ, tt) Ps a) (tt, all_fit 1 (κ, tt) Ps a)) $ says ! (ends h p r u e) $
             frame ! $ use0 𝓛 (‵ (has_of {n = 1} (κ, tt) (slots Ps) (kepts 1 Ps) (stays 1 Ps) a (none_last 1 (κ, tt) Ps a) (told 1 (κ, tt) Ps a))) (has_all 1 (κ, tt) 𝓛 Ps a ok) $ move ! (1 ∷ 0 ∷ []) $ fjoin ! $ frame ! $ done !
 
-        module _ (C : Calls 𝓤 H) (Λ : Loops 𝓤 H) (fm : FmC 𝓤 H 𝓛.laws C) (#g : Name) (known : Triple 𝓤 (C #g) G) where
+        module _ (C : Calls 𝓤 H) (Λ : Loops 𝓤 H) (fm : FmC 𝓤 H 𝓛.laws C) (#g : Callee) (known : Triple 𝓤 (C #g) G) where
           walk : ent 𝓤 (on_entry 𝓛 ended.signature (κ, tt) (q, tt) (ref, a) (vptr b o ∷ [], told 1 (κ, tt) Ps a)) (WpFn 𝓤 H C Λ (code #g) (vptr b o ∷ flat (Ts 1 (κ, tt) Ps) (told 1 (κ, tt) Ps a)) Post)
           walk =
               qed 𝓛 ((‵ (flft κ q) ⊛ ‵ ftrue) ∷ ‵ (owns (MutRef (named 0) κ (row S) ∷ Ts 1 (κ, tt) Ps) (ref, a) (vptr b o ∷ [], told 1 (κ, tt) Ps a)) ∷ []) ∵ enter ! C Λ (code #g) (vptr b o ∷ flat (Ts 1 (κ, tt) Ps) (told 1 (κ, tt) Ps a)) _ $
@@ -116,7 +119,7 @@ module _ (S : Kind) (Ps : List Kind) (R : Kind) where
               keep ! (1 ∷ 2 ∷ 0 ∷ []) $ by ! (exits r zs.0 v (subst (λ (z : Args Ps). Says h z r zs.0) (back 1 (κ, tt) Ps p) e)))))))))))
 
       module _ where
-        walks : (C : Calls 𝓤 H) (Λ : Loops 𝓤 H) → FmC 𝓤 H 𝓛.laws C → (#g : Name) → Triple 𝓤 (C #g) G → Walks 𝓛 ended stayed (WpFn 𝓤 H C Λ (code #g)) (clauses Ends 𝓤)
+        walks : (C : Calls 𝓤 H) (Λ : Loops 𝓤 H) → FmC 𝓤 H 𝓛.laws C → (#g : Callee) → Triple 𝓤 (C #g) G → Walks 𝓛 ended stayed (WpFn 𝓤 H C Λ (code #g)) (clauses Ends 𝓤)
         walks C Λ fm #g known = walked 𝓛 ended stayed (clauses Ends 𝓤) (WpFn 𝓤 H C Λ (code #g))
             (λ κs. (mut_vals, spell 1 κs Ps)) (λ κs. (mut_Tells (named 0) κs.0 (row S), tell 1 κs Ps))
             (λ κs qs bounds a _ are. via 𝓤 _ (fst∗ 𝓤 _ (emp 𝓤)) (walk κs.0 qs.0 a.0.ref_ptr.0 a.0.ref_ptr.1 a.0.ghost_name a.0.now a.1 (fine 1 κs Ps a.1 are.1) C Λ fm #g known))
@@ -124,11 +127,11 @@ module _ (S : Kind) (Ps : List Kind) (R : Kind) where
         goes : AllGo 𝓛 1 ended.signature.params ended.kept stayed
         goes = (Goes-gave_ref 𝓛 1 0 tt (plain (λ _. row S)), all_go 𝓛 1 Ps)
 
-        meets : (𝓣 : Tables 𝓤 H) (#g : Name) → Triple 𝓤 (𝓣.C #g) G → Meets 𝓛 ended.signature (WpFn 𝓤 H 𝓣.C 𝓣.Λ (code #g)) (closing 𝓛 ended (clauses Ends 𝓤))
+        meets : (𝓣 : Tables 𝓤 H) (#g : Callee) → Triple 𝓤 (𝓣.C #g) G → Meets 𝓛 ended.signature (WpFn 𝓤 H 𝓣.C 𝓣.Λ (code #g)) (closing 𝓛 ended (clauses Ends 𝓤))
         meets 𝓣 #g known = walk_Meets 𝓛 ended stayed goes (clauses Ends 𝓤) (WpFn 𝓤 H 𝓣.C 𝓣.Λ (code #g)) (WpFn-mono 𝓤 H 𝓛.laws 𝓣 (code #g)) (walks 𝓣.C 𝓣.Λ (fm_of 𝓤 H 𝓛.laws 𝓣) #g known)
 
     -- the theorem, of a function #f with that code and of a callee #g with that contract
-    pub passes_on : (#f #g : Name) (env : Meaning) (g : Routine) → env #g ≡ g
+    pub passes_on : (#f #g : Callee) (env : Meaning) (g : Routine) → env #g ≡ g
         → ((M : Type 1) (𝓤 : Ura M) (H : Heap 𝓤) (𝓜 : Model 𝓤 H) (𝓡 : Running 𝓤 H 𝓜) → Closed 𝓤 H (tables 𝓤 H 𝓜 𝓡 env).C (tables 𝓤 H 𝓜 𝓡 env).Λ #f (code #g))
         → ((M : Type 1) (𝓤 : Ura M) (𝓛 : Logic 𝓤) (𝓜 : Model 𝓤 𝓛.H) (𝓡 : Running 𝓤 𝓛.H 𝓜) → Triple 𝓤 (𝓡.run g) (G 𝓛))
         → (M : Type 1) (𝓤 : Ura M) (𝓛 : Logic 𝓤) (𝓜 : Model 𝓤 𝓛.H) (𝓡 : Running 𝓤 𝓛.H 𝓜) → Meets 𝓛 ended.signature (𝓡.run (env #f)) (closing 𝓛 ended (clauses Ends 𝓤))

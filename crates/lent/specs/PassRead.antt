@@ -4,10 +4,10 @@
 use Rattle.std.specs.Prelude.{◌≡◌, refl, ℕ, suc, List, [], ◌∷◌}
 use Rattle.std.proofs.Common.{subst}
 use seplogic.Ra.Ura.{Ura}
-use mir.Syntax.{Name, Fn, local, value_local, named, imm, ty_ref, place, copy, seq, call, return}
+use mir.Syntax.{Callee, Fn, local, value_local, named, imm, ty_ref, place, copy, seq, call, return}
 use mir.Val.{Val, vptr}
 use base.Logic.{SProp, ent, emp, via, fst∗, id⊢}
-use base.Fml.{GName, Lft, Share, ftrue, flft}
+use base.Fml.{Lft, Share, ftrue, flft}
 use prog.Routine.{Routine, Env as Meaning}
 use prog.Model.{Model}
 use prog.Wp.{Heap, Calls, Loops, WpFn, Closed, Tables}
@@ -35,10 +35,12 @@ use Rattle.lent.specs.Kind.{Kind, row, Args, Fine, slots, kepts, stays, Ts, out,
 
 module _ (S : Kind) (Ps : List Kind) (R : Kind) where
   -- f's code, over g's name
-  abbrev pub code : Name → Fn
+  abbrev pub code : Callee → Fn
   code #g = record {
     lifetimes = 1;
     outlives = [];
+    ty_params = [];
+    givens = 0;
     params = suc (count Ps);
     locals = local R.τ value_local ∷ local (ty_ref (named 0) imm (pointee S.written)) value_local ∷ locals Ps [];
     body = seq (call #g (copy (place 1 []) ∷ copies (λ n. suc (suc n)) Ps) (place 0 [])) return;
@@ -63,7 +65,7 @@ module _ (S : Kind) (Ps : List Kind) (R : Kind) where
       abbrev pub G : Contract 𝓤
       G = triple_of 𝓛 ended.signature (closing 𝓛 ended (clauses Says 𝓤))
 
-      module _ (κ : Lft) (q : Share) (b o : ℕ) (γ : GName) (h : S.D) (a : Denots (Ts 1 (κ, tt) Ps)) (ok : Fine Ps (out 1 (κ, tt) Ps a)) where
+      module _ (κ : Lft) (q : Share) (b o : ℕ) (h : S.D) (a : Denots (Ts 1 (κ, tt) Ps)) (ok : Fine Ps (out 1 (κ, tt) Ps a)) where
         abbrev p : Args Ps
         p = out 1 (κ, tt) Ps a
 
@@ -92,7 +94,7 @@ module _ (S : Kind) (Ps : List Kind) (R : Kind) where
             suffices ! _ (ends_at 𝓛 ended stayed (clauses Ends 𝓤) (((κ, tt), (q, tt), tt, (ref, a), (vptr b o ∷ [], told 1 (κ, tt) Ps a)), tt) v r (tt, none_last 1 (κ, tt) Ps a) (tt, all_fit 1 (κ, tt) Ps a)) $ says ! (ends h p r e) $
             frame ! $ use0 𝓛 (‵ (has_of {n = 1} (κ, tt) (slots Ps) (kepts 1 Ps) (stays 1 Ps) a (none_last 1 (κ, tt) Ps a) (told 1 (κ, tt) Ps a))) (has_all 1 (κ, tt) 𝓛 Ps a ok) $ nothing ! $ fjoin ! $ frame ! $ done !
 
-        module _ (C : Calls 𝓤 H) (Λ : Loops 𝓤 H) (fm : FmC 𝓤 H 𝓛.laws C) (#g : Name) (known : Triple 𝓤 (C #g) G) where
+        module _ (C : Calls 𝓤 H) (Λ : Loops 𝓤 H) (fm : FmC 𝓤 H 𝓛.laws C) (#g : Callee) (known : Triple 𝓤 (C #g) G) where
           walk : ent 𝓤 (on_entry 𝓛 ended.signature (κ, tt) (q, tt) (ref, a) (vptr b o ∷ [], told 1 (κ, tt) Ps a)) (WpFn 𝓤 H C Λ (code #g) (vptr b o ∷ flat (Ts 1 (κ, tt) Ps) (told 1 (κ, tt) Ps a)) Post)
           walk =
               qed 𝓛 ((‵ (flft κ q) ⊛ ‵ ftrue) ∷ ‵ (owns (ShrRef (named 0) κ (row S) ∷ Ts 1 (κ, tt) Ps) (ref, a) (vptr b o ∷ [], told 1 (κ, tt) Ps a)) ∷ []) ∵ enter ! C Λ (code #g) (vptr b o ∷ flat (Ts 1 (κ, tt) Ps) (told 1 (κ, tt) Ps a)) _ $
@@ -114,19 +116,19 @@ module _ (S : Kind) (Ps : List Kind) (R : Kind) where
               keep ! (1 ∷ 0 ∷ []) $ by ! (exits r v (subst (λ (z : Args Ps). Says h z r) (back 1 (κ, tt) Ps p) e))))))))))
 
       module _ where
-        walks : (C : Calls 𝓤 H) (Λ : Loops 𝓤 H) → FmC 𝓤 H 𝓛.laws C → (#g : Name) → Triple 𝓤 (C #g) G → Walks 𝓛 ended stayed (WpFn 𝓤 H C Λ (code #g)) (clauses Ends 𝓤)
+        walks : (C : Calls 𝓤 H) (Λ : Loops 𝓤 H) → FmC 𝓤 H 𝓛.laws C → (#g : Callee) → Triple 𝓤 (C #g) G → Walks 𝓛 ended stayed (WpFn 𝓤 H C Λ (code #g)) (clauses Ends 𝓤)
         walks C Λ fm #g known = walked 𝓛 ended stayed (clauses Ends 𝓤) (WpFn 𝓤 H C Λ (code #g))
             (λ κs. (shr_vals, spell 1 κs Ps)) (λ κs. (shr_Tells (named 0) κs.0 (row S), tell 1 κs Ps))
-            (λ κs qs bounds a _ are. via 𝓤 _ (fst∗ 𝓤 _ (emp 𝓤)) (walk κs.0 qs.0 a.0.ref_ptr.0 a.0.ref_ptr.1 a.0.ghost_name a.0.now a.1 (fine 1 κs Ps a.1 are.1) C Λ fm #g known))
+            (λ κs qs bounds a _ are. via 𝓤 _ (fst∗ 𝓤 _ (emp 𝓤)) (walk κs.0 qs.0 a.0.ref_ptr.0 a.0.ref_ptr.1 a.0.now a.1 (fine 1 κs Ps a.1 are.1) C Λ fm #g known))
 
         goes : AllGo 𝓛 1 ended.signature.params ended.kept stayed
         goes = (Goes-dropped 𝓛 1 (shr_ref_to (0 ∷ []) tt (plain (λ _. row S))) yes (λ κs x f. refl), all_go 𝓛 1 Ps)
 
-        meets : (𝓣 : Tables 𝓤 H) (#g : Name) → Triple 𝓤 (𝓣.C #g) G → Meets 𝓛 ended.signature (WpFn 𝓤 H 𝓣.C 𝓣.Λ (code #g)) (closing 𝓛 ended (clauses Ends 𝓤))
+        meets : (𝓣 : Tables 𝓤 H) (#g : Callee) → Triple 𝓤 (𝓣.C #g) G → Meets 𝓛 ended.signature (WpFn 𝓤 H 𝓣.C 𝓣.Λ (code #g)) (closing 𝓛 ended (clauses Ends 𝓤))
         meets 𝓣 #g known = walk_Meets 𝓛 ended stayed goes (clauses Ends 𝓤) (WpFn 𝓤 H 𝓣.C 𝓣.Λ (code #g)) (WpFn-mono 𝓤 H 𝓛.laws 𝓣 (code #g)) (walks 𝓣.C 𝓣.Λ (fm_of 𝓤 H 𝓛.laws 𝓣) #g known)
 
     -- the theorem, of a function #f with that code and of a callee #g with that contract
-    pub reads_on : (#f #g : Name) (env : Meaning) (g : Routine) → env #g ≡ g
+    pub reads_on : (#f #g : Callee) (env : Meaning) (g : Routine) → env #g ≡ g
         → ((M : Type 1) (𝓤 : Ura M) (H : Heap 𝓤) (𝓜 : Model 𝓤 H) (𝓡 : Running 𝓤 H 𝓜) → Closed 𝓤 H (tables 𝓤 H 𝓜 𝓡 env).C (tables 𝓤 H 𝓜 𝓡 env).Λ #f (code #g))
         → ((M : Type 1) (𝓤 : Ura M) (𝓛 : Logic 𝓤) (𝓜 : Model 𝓤 𝓛.H) (𝓡 : Running 𝓤 𝓛.H 𝓜) → Triple 𝓤 (𝓡.run g) (G 𝓛))
         → (M : Type 1) (𝓤 : Ura M) (𝓛 : Logic 𝓤) (𝓜 : Model 𝓤 𝓛.H) (𝓡 : Running 𝓤 𝓛.H 𝓜) → Meets 𝓛 ended.signature (𝓡.run (env #f)) (closing 𝓛 ended (clauses Ends 𝓤))

@@ -1,12 +1,13 @@
 -- A call that stores fields of a lent state, or the whole of it: `fn f(t: &mut S, p: P, ..) -> R { let a = g(*t, p, ..); t.x = a.y; ..; a.answer }`, and `*t = a.state;` (`Plan`). See `Change.antt`.
 -- The state behind the reference is copied whole and passed to g; the borrow is open from there to the last store, at which it is closed.
+-- `code` stores each field straight from a. Where a front end copies a field to a local of its own before the store, its code is another, and this file says nothing of it.
 -- Assumes nothing.
 use Rattle.std.specs.Prelude.{◌≡◌, refl, ℕ, zero, suc, List, [], ◌∷◌, get_or}
 use Rattle.std.proofs.Common.{ap, subst}
 use Rattle.std.proofs.Math.Option.{some}
 use seplogic.Ra.Ura.{Ura}
-use seplogic.Ra.TreeShare.{full_share}
-use mir.Syntax.{Name, Fn, Ty, local, value_local, named, mut, ty_ref, deref, field, place, copy, rv_opd, Body, seq, assign, call, return}
+use base.Fraction.{full_share}
+use mir.Syntax.{Callee, Fn, Ty, local, value_local, named, mut, ty_ref, deref, field, place, copy, rv_opd, Body, seq, assign, call, return}
 use mir.Val.{Val, Vals, vptr, vstruct}
 use mir.Fields.{set_v}
 use base.Logic.{id⊢}
@@ -66,25 +67,27 @@ module _ (S A : Sort) where
 
   module _ {M : Type 1} {𝓤 : Ura M} {𝓛 : Logic 𝓤} {K : Type 0} {Γ : List (Item 𝓤)} {C : Calls 𝓤 𝓛.H} {Λ : Loops 𝓤 𝓛.H} {q : Post 𝓤 𝓛.H} (rest : Body)
       (r : A.T.D) (is : Fields A r) (a : ℕ) (τ₀ τ₁ : Ty) (l₀ l₁ l : ℕ) (E : List (Ty × ℕ)) (b o n₁ n : ℕ)
-      (at_a : get_or ((τ₀, l₀) ∷ (τ₁, l₁) ∷ E) a (no_local 𝓤 𝓛.H) ≡ ((kind A).τ, l)) (at-t : nth 𝓛 n₁ Γ ≡ ‵ (fat full_share τ₁ l₁ zero (vptr b o))) (at-r : nth 𝓛 n Γ ≡ ‵ (fat full_share (kind A).τ l zero ((kind A).val r))) where
+      (at_a : get_or ((τ₀, l₀) ∷ (τ₁, l₁) ∷ E) a (no_local 𝓤 𝓛.H) ≡ ((kind A).τ, l)) (at_t : nth 𝓛 n₁ Γ ≡ ‵ (fat full_share τ₁ l₁ zero (vptr b o))) (at_r : nth 𝓛 n Γ ≡ ‵ (fat full_share (kind A).τ l zero ((kind A).val r))) where
     do_moves : K → (ms : List (Move S A)) (vs : Vals) → Step K 𝓛 (‵ (fat full_share (kind S).τ b o (vstruct (moved ms vs r))) ∷ Γ) (runs C Λ ((τ₀, l₀) ∷ (τ₁, l₁) ∷ E) rest q) (‵ (fat full_share (kind S).τ b o (vstruct vs)) ∷ Γ) (runs C Λ ((τ₀, l₀) ∷ (τ₁, l₁) ∷ E) (moves a ms rest) q)
     do_moves t [] vs = step (λ s. s)
     do_moves t (m ∷ ms) vs = step (λ s.
-        assigns t (of_opd t (part t (suc n) A m.B m.of r at_a at-r)) (from t (hop t (look t (suc n₁) at-t) (fld t m.at (stop t)))) (store_in t 0 (sub t m.i m.at (P.whole t)) (m.B.typed 𝓛 (m.of.get r) _ (m.of.ok r is)).0) $
+        assigns t (of_opd t (part t (suc n) A m.B m.of r at_a at_r)) (from t (hop t (look t (suc n₁) at_t) (fld t m.at (stop t)))) (store_in t 0 (sub t m.i m.at (P.whole t)) (m.B.typed 𝓛 (m.of.get r) _ (m.of.ok r is)).0) $
         do_moves t ms (set_v vs m.i (m.B.val (m.of.get r))) $ s)
 
     do_stores : K → (p : Plan S A) (h : S.T.D) → Step K 𝓛 (‵ (fat full_share (kind S).τ b o (left p h r)) ∷ Γ) (runs C Λ ((τ₀, l₀) ∷ (τ₁, l₁) ∷ E) rest q) (‵ (fat full_share (kind S).τ b o ((kind S).val h)) ∷ Γ) (runs C Λ ((τ₀, l₀) ∷ (τ₁, l₁) ∷ E) (stores a p rest) q)
-    do_stores t (whole p) h = step (λ s. assigns t (of_opd t (part t (suc n) A (kind S) p r at_a at-r)) (from t (hop t (look t (suc n₁) at-t) (stop t))) (store t 0 refl ((kind S).typed 𝓛 (p.get r) _ (p.ok r is)).0) $ s)
+    do_stores t (whole p) h = step (λ s. assigns t (of_opd t (part t (suc n) A (kind S) p r at_a at_r)) (from t (hop t (look t (suc n₁) at_t) (stop t))) (store t 0 refl ((kind S).typed 𝓛 (p.get r) _ (p.ok r is)).0) $ s)
     do_stores t (fields ms) h = do_moves t ms (vals S h)
 
 module _ (c : Call) (plan : Plan c.S c.A) where
   open c use {S, Ps, A, R, answer, stored, Says}
 
   -- f's code, over g's name: after the parameters, the locals are a and the copy of the state
-  abbrev pub code : Name → Fn
+  abbrev pub code : Callee → Fn
   code #g = record {
     lifetimes = 1;
     outlives = [];
+    ty_params = [];
+    givens = 0;
     params = suc (count Ps);
     locals = local R.τ value_local ∷ local (ty_ref (named 0) mut (pointee (kind S).written)) value_local ∷ locals Ps (local (kind A).τ value_local ∷ local (kind S).τ value_local ∷ []);
     body = seq (assign (place (suc (suc (past Ps 1))) []) (rv_opd (copy (place 1 (deref (kind S).τ ∷ [])))))

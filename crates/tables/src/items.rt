@@ -8,7 +8,7 @@ use values::{ConnectionId, Token};
 
 // What is absent holds zeros. The bytes come before the flag, so that the compiler can test several items' bytes at a time.
 #[repr(C)]
-#[derive(Drop)]
+#[derive(Clone, Copy)]
 pub struct Item {
     pub seq: u64,
     pub path: u64,
@@ -18,7 +18,7 @@ pub struct Item {
 }
 
 #[repr(C)]
-#[derive(Drop)]
+#[derive(Clone, Copy)]
 pub struct Table {
     pub items: [Item; 31],
     pub count: usize,

@@ -1,5 +1,7 @@
 // Arrays with a count: the table of items, the queue of sequences, and the list of used sequences. Each holds a list in its first places and zeros past
 // them, so a contract here is an equation: the result is the one array that holds the list which the definition gives.
+#![tactic(auto)]
+
 mod items;
 mod lookup;
 mod lower;

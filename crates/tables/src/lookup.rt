@@ -9,14 +9,14 @@ use crate::items::{Item, Table};
 use values::ConnectionId;
 
 // An item and its place, where one is present.
-#[derive(Drop)]
+#[derive(Clone, Copy)]
 pub struct Sought {
     pub item: Item,
     pub place: usize,
     pub present: bool,
 }
 
-#[derive(Drop)]
+#[derive(Clone, Copy)]
 pub enum Lowest {
     Seq(u64),
     Missing,

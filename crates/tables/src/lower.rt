@@ -10,7 +10,7 @@ use crate::sequences::Queue;
 use values::UsedSeq;
 
 #[repr(C)]
-#[derive(Drop)]
+#[derive(Clone, Copy)]
 pub struct Used {
     pub pairs: [UsedSeq; 31],
     pub count: usize,

@@ -5,7 +5,7 @@ ghost use Rattle.values.specs.Limits.{queue_slots};
 ghost use Rattle.tables.specs.Table.{QueueWell, differs, entries, queue_of};
 
 #[repr(C)]
-#[derive(Drop)]
+#[derive(Clone, Copy)]
 pub struct Queue {
     pub items: [u64; 128],
     pub count: usize,

@@ -1,5 +1,5 @@
 -- The published calls of the timers: refusal 1 where the table is not well formed, the timer is none of the nine, or the moment is too late; then nothing changed.
-use Rattle.std.specs.Prelude.{ℕ, Bool, false, cond, ◌&&◌, leb, ltb}
+use Rattle.std.specs.Prelude.{ℕ, Bool, false, cond, ◌&&◌, ltb}
 use Rattle.std.proofs.Math.Option.{none}
 use Rattle.values.specs.Limits.{timer_count}
 use Rattle.values.specs.declared.time.Moment.{Moment}

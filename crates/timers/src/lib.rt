@@ -1,4 +1,6 @@
 // The nine timers of a connection, after the Rust's timer.rs. calls.rt has the published calls.
+#![tactic(auto)]
+
 mod calls;
 mod formed;
 mod steps;

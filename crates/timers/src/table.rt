@@ -2,14 +2,14 @@
 use values::{Deadline, Done};
 
 #[repr(C)]
-#[derive(Drop)]
+#[derive(Clone, Copy)]
 pub struct TimerTable {
     pub expires: [Deadline; 9],
 }
 
 // What a call that changes the table gives.
 #[repr(C)]
-#[derive(Drop)]
+#[derive(Clone, Copy)]
 pub struct TimersOut {
     pub timers: TimerTable,
     pub answer: Done,

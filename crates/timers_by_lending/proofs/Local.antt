@@ -5,10 +5,9 @@
 --     lies             the local's cell with h's machine value  ⊢  h lies at b
 --     stands           h lies at b  ⊢  the local's cell with h's machine value, and what h owns
 -- `lies` and `stands` assume `Logic`. The rest assumes nothing.
-use Prim.Native.Nat.{ℕ}
-use mathlib.Core.List.{[], ◌∷◌, List}
+use Rattle.std.specs.Prelude.{ℕ, [], ◌∷◌, List}
 use seplogic.Ra.Ura.{Ura}
-use seplogic.Ra.TreeShare.{full_share}
+use base.Fraction.{full_share}
 use mir.Val.{Val}
 use base.Logic.{ent, sep}
 use base.Fml.{GName, fsep, fat}

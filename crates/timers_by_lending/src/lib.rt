@@ -1,4 +1,6 @@
 // The timer table's calls by value, made by lending: each holds the table in a local, lends the local to the call of timers_lent, and answers with what is then there.
+#![tactic(auto)]
+
 ghost use Rattle.std.specs.Prelude.{◌≡◌};
 ghost use Rattle.timers.specs.Calls.{next_timeout_call, set_call, stop_call};
 

@@ -1,6 +1,8 @@
 // The timer table, lent in place: set, stop and clear take the value out, make the published call by value, and put the table that it answers back. On a
 // refusal that is the table as it was. For hosts: a caller in Rattle uses the calls by value, since a caller of these is a proof by hand; `timers_by_lending`
 // has three, for the comparison of the two forms.
+#![tactic(auto)]
+
 ghost use Rattle.std.specs.Prelude.{[], ◌≡◌};
 ghost use Rattle.timers.specs.Calls.{clear_call, next_timeout_call, set_call, stop_call};
 
