@@ -10,13 +10,4 @@ pub mod Rows
 pub mod Promise
 pub mod Example
 pub mod Laws
-pub mod Ends
-pub mod Kept
-pub mod Refuses
-pub mod Never
-pub mod Once
-pub mod Below
-pub mod BelowExample
-pub mod Promised
 pub mod Rfc
-pub mod RfcProof

@@ -9,13 +9,13 @@ use Rattle.values.specs.Cid.{id_formed}
 use Rattle.ids_rules.specs.Values.{Item, has_seq}
 use Rattle.ids_rules.specs.View.{View, Nothing, Out, refused, accepted}
 use Rattle.ids_rules.specs.Steps.{fresh, zero_view}
-use Rattle.ids_rules.specs.Ends.{AddScidEnds, refuses, raises, issues, RetireScidEnds, unissued, only, absent, out, frees, AddDcidEnds, rejects, again, waits, late4, late, lowers, renews, adds, add_scid_ends, retire_scid_ends, add_dcid_ends}
+use Rattle.ids_rules.proofs.Ends.{AddScidEnds, refuses, raises, issues, RetireScidEnds, unissued, only, absent, out, frees, AddDcidEnds, rejects, again, waits, late4, late, lowers, renews, adds, add_scid_ends, retire_scid_ends, add_dcid_ends}
 use Rattle.ids_rules.specs.Well.{well}
 use Rattle.ids_rules.specs.Calls.{Call, SetInitialDcid, SetScidLimit, AddScid, RetireScid, AddDcid, MarkScidUsed, MarkDcidUsed, MarkScidToAdvertise, MarkDcidToRetire, Ask}
 use Rattle.ids_rules.specs.Calls.{Query, GetScid, GetDcid, FindScid, UnusedScids, UnusedDcids, LowestUnusedDcidSeq, NextScidToAdvertise, NextDcidToRetire, CreateNewConnectionIdFrame, NeedSendCidControlFrames, ZeroLengthScid, ZeroLengthDcid, ScidCount, ScidAt, DcidCount, DcidAt}
 use Rattle.ids_rules.specs.Calls.{Reply, reply, call_formed, step, after, run}
 use Rattle.ids_rules.specs.Laws.{decided, optioned}
-use Rattle.ids_rules.specs.Kept.{well_is, is_well, step_well}
+use Rattle.ids_rules.proofs.Kept.{well_is, is_well, step_well}
 use Rattle.ids_rules.specs.Promise.{starts, FreshWell, KeepsWell, NeverOne}
 
 -- ---- well formed

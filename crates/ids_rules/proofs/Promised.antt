@@ -1,9 +1,9 @@
 -- Every promise of Promise.antt holds.
 use Rattle.ids_rules.specs.Promise.{Promises}
-use Rattle.ids_rules.specs.Refuses.{determined, refused_is_quiet_lem, leaves_nothing_lem}
-use Rattle.ids_rules.specs.Never.{fresh_well_lem, keeps_well_lem, never_one_lem}
-use Rattle.ids_rules.specs.Once.{without_gap_lem, table_is_history_lem, never_returns_lem}
-use Rattle.ids_rules.specs.Below.{none_below_lem, none_below_early_lem}
+use Rattle.ids_rules.proofs.Refuses.{determined, refused_is_quiet_lem, leaves_nothing_lem}
+use Rattle.ids_rules.proofs.Never.{fresh_well_lem, keeps_well_lem, never_one_lem}
+use Rattle.ids_rules.proofs.Once.{without_gap_lem, table_is_history_lem, never_returns_lem}
+use Rattle.ids_rules.proofs.Below.{none_below_lem, none_below_early_lem}
 
 pub promised : Promises
 promised = record {

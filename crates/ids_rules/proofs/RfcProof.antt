@@ -18,15 +18,15 @@ use Rattle.values.specs.declared.used.UsedSeq.{UsedSeq}
 use Rattle.ids_rules.specs.View.{View, Nothing, Issued, Retired, Out, refused, accepted}
 use Rattle.ids_rules.specs.With.{with_dcids_to_retire}
 use Rattle.ids_rules.specs.Steps.{lowest_from, sole, without, too_many, queue_late, raise, append, lowered}
-use Rattle.ids_rules.specs.Ends.{Raised, spare, lifts, AddScidEnds, refuses, raises, issues, RetireScidEnds, unissued, only as only_one, absent, out, frees, AddDcidEnds, rejects, again, waits, late4, late, lowers, renews, adds, queued, add_scid_ends, retire_scid_ends, add_dcid_ends}
+use Rattle.ids_rules.proofs.Ends.{Raised, spare, lifts, AddScidEnds, refuses, raises, issues, RetireScidEnds, unissued, only as only_one, absent, out, frees, AddDcidEnds, rejects, again, waits, late4, late, lowers, renews, adds, queued, add_scid_ends, retire_scid_ends, add_dcid_ends}
 use Rattle.ids_rules.specs.Well.{well, distinct}
 use Rattle.ids_rules.specs.Calls.{Call, SetInitialDcid, SetScidLimit, AddScid, RetireScid, AddDcid, MarkScidUsed, MarkDcidUsed, MarkScidToAdvertise, MarkDcidToRetire, Ask, call_formed, step, apply, after, run}
 use Rattle.ids_rules.specs.Laws.{any_moved, decided, optioned, never, or_neither, all_append, all_kept, first_none, first_some}
-use Rattle.ids_rules.specs.Kept.{Well, well_is, raised_le}
-use Rattle.ids_rules.specs.Never.{fresh_well_lem, run_well}
+use Rattle.ids_rules.proofs.Kept.{Well, well_is, raised_le}
+use Rattle.ids_rules.proofs.Never.{fresh_well_lem, run_well}
 use Rattle.ids_rules.specs.Promise.{sets_initial, takes_frame, destinations, none_below, never_after}
-use Rattle.ids_rules.specs.Once.{without_gap_lem, has_map, map_more, begun}
-use Rattle.ids_rules.specs.Below.{has_right, has_below, has_from, by_frame, step_aside, known, Carried, run_carried, none_below_early_lem}
+use Rattle.ids_rules.proofs.Once.{without_gap_lem, has_map, map_more, begun}
+use Rattle.ids_rules.proofs.Below.{has_right, has_below, has_from, by_frame, step_aside, known, Carried, run_carried, none_below_early_lem}
 use Rattle.ids_rules.specs.Rfc.{NewConnectionId, RetireConnectionId, Issue, new_id, retire_id, issue_id, initial_id, itself, same_again, item_of, Closes, Rule, Met, MetUnless, MetOver, held, repeated, increases, comes_late, kept, in_need, retire_limit, filled, unfilled, excess, no_room, marking, crowded, unlimited, otherwise, spoilt, unwelcome, only, none_left, active, initial, retiring}
 use Rattle.ids_rules.specs.Rfc.{InitialIsZero, AcceptedUntilRetired, OthersStay, WithinPeerLimit, WithinLimit, OverLimit, Supplies, TotalLimited, IssuanceLimited, ZeroLengthIssues, LowerAreRetired, QueueLimited, TracksTwice, TooManyToRetire, NotForgotten}
 use Rattle.ids_rules.specs.Rfc.{ZeroLengthDestination, SameFrameAgain, SameFrameLater, Conflict, IssuedAboveOwn, AboveSequence, Ignores, LateIsRetired, LateIsNotKept, WaitsAlready, TokenEnds, NotIssued, OwnPacket, GivenIsRetired, Conforms, Differs, cid, token}

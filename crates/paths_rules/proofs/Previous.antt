@@ -11,11 +11,11 @@ use Rattle.paths_rules.specs.With.{with_ask, with_lost}
 use Rattle.paths_rules.specs.Path.{new_path_of, zero_path, carries, matches, unmatched, heeds, validated, largest_after, expire, probing, timeout, challenge}
 use Rattle.paths_rules.specs.Table.{Table, Out, Nothing, Inserted, refused, accepted, path_at, known, fresh, fresh_formed, zero_table}
 use Rattle.paths_rules.specs.Calls.{Act, Send, Respond, Credit, Call, On, Insert, Timeout}
-use Rattle.paths_rules.specs.Calls.{call_formed, step, apply, after, run, effect, refusal, answer}
-use Rattle.paths_rules.specs.Steps.{both, decided, never, or_neither, heeds_is, act_keeps, apply_is, act_is, path_is, act_holds, call_holds}
-use Rattle.paths_rules.specs.Frame.{timeout_holds}
-use Rattle.paths_rules.specs.Kept.{run_well, keeps_well_lem}
-use Rattle.paths_rules.specs.Proof.{after_new}
+use Rattle.paths_rules.specs.Calls.{call_formed, step, apply, after, run, effect, refusal}
+use Rattle.paths_rules.proofs.Steps.{both, decided, never, or_neither, heeds_is, act_keeps, apply_is, act_is, path_is, act_holds, call_holds}
+use Rattle.paths_rules.proofs.Frame.{timeout_holds}
+use Rattle.paths_rules.proofs.Kept.{run_well, keeps_well_lem}
+use Rattle.paths_rules.proofs.Promised.{after_new}
 use Rattle.paths_rules.specs.Well.{well}
 use Rattle.paths_rules.specs.Promise.{Starts, starts}
 use Rattle.paths_rules.specs.Words.{two}

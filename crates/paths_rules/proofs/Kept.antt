@@ -21,10 +21,10 @@ use Rattle.paths_rules.specs.Calls.{Read, Get, LocalAddr, RemoteAddr, State, Val
 use Rattle.paths_rules.specs.Calls.{Pop, Receive, Send, Respond, Credit, Charge, SetScid, SetDcid, SetActive, Verify, Look, Survey, Len, IdOf, GetActive}
 use Rattle.paths_rules.specs.Calls.{Timer, active_out, Call, On, Insert, Timeout, Ping, Multipath, Ask, act_formed, call_formed, step, after, run, effect}
 use Rattle.paths_rules.specs.Calls.{unless_known, send_refusal, read_refusal, refusal, survey}
-use Rattle.paths_rules.specs.Steps.{both, decided, survey_same}
-use Rattle.paths_rules.specs.Frame.{timeout_holds}
-use Rattle.paths_rules.specs.Facts.{Bounds, Parts, Well, parts_are, are_parts, well_is, is_well, all_at, all_put, all_mapped, all_snoc, all_kept}
-use Rattle.paths_rules.specs.Listing.{Less, less_same, less_still, less_unlist, shrinks_map, shrinks_set, shrinks_apart, all_off, snoc_apart, put_apart}
+use Rattle.paths_rules.proofs.Steps.{both, decided, survey_same}
+use Rattle.paths_rules.proofs.Frame.{timeout_holds}
+use Rattle.paths_rules.proofs.Facts.{Bounds, Parts, Well, parts_are, are_parts, well_is, is_well, all_at, all_put, all_mapped, all_snoc, all_kept}
+use Rattle.paths_rules.proofs.Listing.{Less, less_same, less_still, less_unlist, shrinks_map, shrinks_set, shrinks_apart, all_off, snoc_apart, put_apart}
 use Rattle.paths_rules.specs.Promise.{starts, Determined, FreshWell, KeepsWell, OneIsForm, NeverOne}
 
 pub determined : Determined

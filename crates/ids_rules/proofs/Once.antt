@@ -13,14 +13,14 @@ use Rattle.values.specs.Cid.{same_id}
 use Rattle.ids_rules.specs.Values.{Item, seq_of, has_seq}
 use Rattle.ids_rules.specs.View.{View, Answer, Nothing, Out, refused, accepted}
 use Rattle.ids_rules.specs.Steps.{fresh, fresh_formed, zero_view, sole, without, used}
-use Rattle.ids_rules.specs.Ends.{AddScidEnds, refuses, raises, issues as issues-one, RetireScidEnds, unissued, only, absent, out as taken_out, frees, AddDcidEnds, rejects, again, waits, late4, late, lowers, renews, adds, add_scid_ends, retire_scid_ends, add_dcid_ends}
+use Rattle.ids_rules.proofs.Ends.{AddScidEnds, refuses, raises, issues as issues-one, RetireScidEnds, unissued, only, absent, out as taken_out, frees, AddDcidEnds, rejects, again, waits, late4, late, lowers, renews, adds, add_scid_ends, retire_scid_ends, add_dcid_ends}
 use Rattle.ids_rules.specs.Well.{well}
 use Rattle.ids_rules.specs.Calls.{Call, SetInitialDcid, SetScidLimit, AddScid, RetireScid, AddDcid, MarkScidUsed, MarkDcidUsed, MarkScidToAdvertise, MarkDcidToRetire, Ask}
 use Rattle.ids_rules.specs.Calls.{Query, GetScid, GetDcid, FindScid, UnusedScids, UnusedDcids, LowestUnusedDcidSeq, NextScidToAdvertise, NextDcidToRetire, CreateNewConnectionIdFrame, NeedSendCidControlFrames, ZeroLengthScid, ZeroLengthDcid, ScidCount, ScidAt, DcidCount, DcidAt}
 use Rattle.ids_rules.specs.Calls.{Reply, reply, call_formed, step, apply, after, run}
 use Rattle.ids_rules.specs.Laws.{decided, optioned, never, none_append, none_keep}
-use Rattle.ids_rules.specs.Kept.{Well, well_is, absent_high, used_seq}
-use Rattle.ids_rules.specs.Never.{fresh_well_lem, keeps_well_lem, run_well}
+use Rattle.ids_rules.proofs.Kept.{Well, well_is, absent_high, used_seq}
+use Rattle.ids_rules.proofs.Never.{fresh_well_lem, keeps_well_lem, run_well}
 use Rattle.ids_rules.specs.Promise.{Starts, starts, Event, event, history, issued_by, issues, retires, out, logged, remaining, counted, sequences, WithoutGap, TableIsHistory, NeverReturns}
 
 -- ---- sequences of a list of items

@@ -15,7 +15,7 @@ use Rattle.ids_rules.specs.Values.{Item, on_path, seq_of, has_seq, from, clashes
 use Rattle.ids_rules.specs.View.{View, Out}
 use Rattle.ids_rules.specs.With.{with_scids, with_dcids, with_retire_prior_to, with_dcids_to_retire}
 use Rattle.ids_rules.specs.Steps.{lowest_from, marked, sole, without, lowered, used}
-use Rattle.ids_rules.specs.Ends.{Raised, spare, lifts, AddScidEnds, refuses, raises, issues, RetireScidEnds, unissued, only, absent, out, frees, AddDcidEnds, rejects, again, waits, late4, late, lowers, renews, adds, queued, add_scid_ends, retire_scid_ends, add_dcid_ends}
+use Rattle.ids_rules.proofs.Ends.{Raised, spare, lifts, AddScidEnds, refuses, raises, issues, RetireScidEnds, unissued, only, absent, out, frees, AddDcidEnds, rejects, again, waits, late4, late, lowers, renews, adds, queued, add_scid_ends, retire_scid_ends, add_dcid_ends}
 use Rattle.ids_rules.specs.Well.{rising_within, distinct, limits, source, destination, queues, well}
 use Rattle.ids_rules.specs.Calls.{Call, SetInitialDcid, SetScidLimit, AddScid, RetireScid, AddDcid, MarkScidUsed, MarkDcidUsed, MarkScidToAdvertise, MarkDcidToRetire, Ask, call_formed, step}
 use Rattle.ids_rules.specs.Laws.{decided, both_and, or_neither, every_is, is_every, all_append, all_keep, all_moved, any_moved, none_keep, none_append}

@@ -10,11 +10,11 @@ use Rattle.values.specs.Limits.{queue_slots}
 use Rattle.ids_rules.specs.Values.{Item, seq_of, has_seq, from, below}
 use Rattle.ids_rules.specs.View.{View, Out}
 use Rattle.ids_rules.specs.Steps.{fresh_formed, lowered}
-use Rattle.ids_rules.specs.Ends.{AddScidEnds, refuses, raises, issues, RetireScidEnds, unissued, only, absent, out, frees, AddDcidEnds, rejects, again, waits, late4, late, lowers, renews, adds, add_scid_ends, retire_scid_ends, add_dcid_ends}
+use Rattle.ids_rules.proofs.Ends.{AddScidEnds, refuses, raises, issues, RetireScidEnds, unissued, only, absent, out, frees, AddDcidEnds, rejects, again, waits, late4, late, lowers, renews, adds, add_scid_ends, retire_scid_ends, add_dcid_ends}
 use Rattle.ids_rules.specs.Well.{well}
 use Rattle.ids_rules.specs.Calls.{Call, SetInitialDcid, SetScidLimit, AddScid, RetireScid, AddDcid, MarkScidUsed, MarkDcidUsed, MarkScidToAdvertise, MarkDcidToRetire, Ask, call_formed, step, after, run}
 use Rattle.ids_rules.specs.Laws.{decided, never, or_neither, all_append, all_kept}
-use Rattle.ids_rules.specs.Once.{map_more, map_used}
+use Rattle.ids_rules.proofs.Once.{map_more, map_used}
 use Rattle.ids_rules.specs.Promise.{Starts, starts, sets_initial, takes_frame, destinations, none_below, never_after, NoneBelow, NoneBelowEarly}
 
 -- ---- a sequence of a list of items

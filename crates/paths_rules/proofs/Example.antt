@@ -6,7 +6,7 @@ use Rattle.paths_rules.specs.Table.{Table, Answer, Nothing, Inserted, Responded,
 use Rattle.paths_rules.specs.Calls.{Call, On, Insert, Timeout, Ping, Ask, Len, Look, Get, Allowed, Receive, Send, Respond, Credit, Charge, SetDcid, SetActive}
 use Rattle.paths_rules.specs.Calls.{Verify, apply, after, run}
 use Rattle.paths_rules.specs.Promise.{starts, total_credit, total_charge, Lasts, Within, Begins, first, inserted}
-use Rattle.paths_rules.specs.Proof.{demand3}
+use Rattle.paths_rules.proofs.Promised.{demand3}
 use Rattle.paths_rules.specs.Words.{pair_a, pair_b, pair_c, server}
 
 -- ---- a test that computes whether a period lasts

@@ -14,12 +14,12 @@ use Rattle.paths_rules.specs.Path.{promote, rank_failed, rank_validating, rank_v
 use Rattle.paths_rules.specs.Table.{Table, Out, Answer, Nothing, Inserted, Number, Flag, Maybe, refused, accepted, path_at, known, on_path, insert, fresh, fresh_formed, zero_table, timer as timerOf}
 use Rattle.paths_rules.specs.Calls.{Act, Pop, Receive, Send, Respond, Credit, Look, NeedsFrames}
 use Rattle.paths_rules.specs.Calls.{NeedsPadding, Call, On, is_moment, step, apply, after, run, effect, refusal, answer}
-use Rattle.paths_rules.specs.Steps.{both, decided, never, or_neither, heeds_is, act_keeps, apply_is, act_is, path_is, act_holds, insert_holds, call_holds}
-use Rattle.paths_rules.specs.Frame.{only_verified_lem, expire_holds, timeout_holds}
-use Rattle.paths_rules.specs.Previous.{is_known, sent_accepted, previous, only_previous_lem}
+use Rattle.paths_rules.proofs.Steps.{both, decided, never, or_neither, heeds_is, act_keeps, apply_is, act_is, path_is, act_holds, insert_holds, call_holds}
+use Rattle.paths_rules.proofs.Frame.{only_verified_lem, expire_holds, timeout_holds}
+use Rattle.paths_rules.proofs.Previous.{is_known, sent_accepted, previous, only_previous_lem}
 use Rattle.paths_rules.specs.Well.{well}
 use Rattle.paths_rules.specs.Promise.{starts}
-use Rattle.paths_rules.specs.Proof.{demand3}
+use Rattle.paths_rules.proofs.Promised.{demand3}
 use Rattle.paths_rules.specs.Rfc.{Begun, Fired, response, received, sent, arrived, wished, begun, answered, frames, padding, timer, fired, itself, Rule, Met, MetUnless}
 use Rattle.paths_rules.specs.Rfc.{ThreeTimes, Three, large_factor, Limits, on_client, permits, Several, far, smallest_size, Expands, not_told, ExpandsWithin, small_size, ProbesAgain, expanded}
 use Rattle.paths_rules.specs.Rfc.{OnlyExpanded, remembers, NoneRemembered, already_or_remembers, SingleLoss, losses_survive, TimerSet, ByTimer, AsksNoMore, asks_still, StaysActive, validates_single}

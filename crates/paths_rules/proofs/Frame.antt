@@ -17,7 +17,7 @@ use Rattle.paths_rules.specs.Table.{Table, Out, Inserted, Responded, refused, ac
 use Rattle.paths_rules.specs.Well.{well}
 use Rattle.paths_rules.specs.Calls.{Act, Initiate, Pop, Receive, Send, Respond, Credit, Charge, SetScid, SetDcid, SetActive, Verify, Look, Call, On, Insert}
 use Rattle.paths_rules.specs.Calls.{Timeout, Ping, Multipath, Ask, is_moment, call_formed, step, effect, refusal}
-use Rattle.paths_rules.specs.Steps.{both, decided, deaf, act_keeps, one_holds, act_holds, insert_holds, call_holds}
+use Rattle.paths_rules.proofs.Steps.{both, decided, deaf, act_keeps, one_holds, act_holds, insert_holds, call_holds}
 use Rattle.paths_rules.specs.Promise.{names, Frame, InsertionFrame, InsertionUnlists, OnlyVerified, Unasked, OnlyCredit}
 
 -- ---- every field

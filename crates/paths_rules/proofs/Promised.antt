@@ -15,9 +15,9 @@ use Rattle.paths_rules.specs.Calls.{Act, Initiate, Pop, Receive, Send, Respond, 
 use Rattle.paths_rules.specs.Calls.{Timeout, Ping, Multipath, Ask, call_formed, step, apply, after, effect, run}
 use Rattle.paths_rules.specs.Promise.{Starts, starts, Amounts, nothing, amounts, amounts_to, total_credit, total_charge, Lasts, Within, Begins, first, inserted}
 use Rattle.paths_rules.specs.Promise.{Demand3, Allowance, OneRun}
-use Rattle.paths_rules.specs.Steps.{both, apply_is, call_more}
-use Rattle.paths_rules.specs.Frame.{only_credit_lem, frame}
-use Rattle.paths_rules.specs.Kept.{keeps_well_lem, run_well, fresh_well_lem}
+use Rattle.paths_rules.proofs.Steps.{both, apply_is, call_more}
+use Rattle.paths_rules.proofs.Frame.{only_credit_lem, frame}
+use Rattle.paths_rules.proofs.Kept.{keeps_well_lem, run_well, fresh_well_lem}
 
 -- ---- what no call changes
 

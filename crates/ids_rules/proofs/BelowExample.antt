@@ -13,7 +13,7 @@ use Rattle.ids_rules.specs.Calls.{Call, SetInitialDcid, SetScidLimit, AddScid, R
 use Rattle.ids_rules.specs.Calls.{GetScid, GetDcid, FindScid, UnusedScids, UnusedDcids, LowestUnusedDcidSeq, NextScidToAdvertise, NextDcidToRetire, CreateNewConnectionIdFrame, NeedSendCidControlFrames, ZeroLengthScid, ZeroLengthDcid, ScidCount, ScidAt, DcidCount, DcidAt}
 use Rattle.ids_rules.specs.Laws.{never}
 use Rattle.ids_rules.specs.Promise.{Starts, starts, Event, history, sets_initial, takes_frame, destinations, none_below, never_after}
-use Rattle.ids_rules.specs.Below.{none_below_lem, none_below_early_lem}
+use Rattle.ids_rules.proofs.Below.{none_below_lem, none_below_early_lem}
 
 abbrev cid : ℕ → ConnectionId
 cid n = cid_new_of (n ∷ [])

@@ -1,0 +1,9 @@
+pub mod Ends
+pub mod Kept
+pub mod Refuses
+pub mod Never
+pub mod Once
+pub mod Below
+pub mod BelowExample
+pub mod Promised
+pub mod RfcProof

@@ -1,0 +1,9 @@
+pub mod Steps
+pub mod Frame
+pub mod Facts
+pub mod Listing
+pub mod Kept
+pub mod Promised
+pub mod Example
+pub mod Previous
+pub mod RfcProof
