@@ -1,5 +1,7 @@
 // The challenge lists of one path: arrays with a count. Each holds a list in its first places and zeros past them, so a contract here is an equation: the
 // result is the one array that holds the list which the definition gives.
+#![tactic(auto)]
+
 mod matches;
 mod received;
 mod sent;

@@ -7,14 +7,14 @@ use crate::sent::Sent;
 use values::{Moment, Span};
 
 #[repr(C)]
-#[derive(Drop)]
+#[derive(Clone, Copy)]
 pub struct Spans {
     pub items: [Span; 16],
     pub count: usize,
 }
 
 // What a response finds: the spans of its matches, and the size of the last one.
-#[derive(Drop)]
+#[derive(Clone, Copy)]
 pub struct Matches {
     pub spans: Spans,
     pub size: u64,

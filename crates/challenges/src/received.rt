@@ -7,7 +7,7 @@ ghost use Rattle.challenges.specs.Challenges.{ReceivedWell, received_of, roomed,
 use values::limits::MAX_PATH_CHALS_RECV;
 
 #[repr(C)]
-#[derive(Drop)]
+#[derive(Clone, Copy)]
 pub struct Received {
     pub items: [u64; 8],
     pub count: usize,
@@ -15,7 +15,7 @@ pub struct Received {
 
 // The data of a challenge, or none: then it is 0.
 #[repr(C)]
-#[derive(Drop)]
+#[derive(Clone, Copy)]
 pub struct Waiting {
     pub data: u64,
     pub present: bool,

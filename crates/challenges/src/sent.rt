@@ -8,7 +8,7 @@ use values::{Deadline, Moment};
 
 // The data of the frame, the size of the packet, when it was sent, and when it counts as lost.
 #[repr(C)]
-#[derive(Drop)]
+#[derive(Clone, Copy)]
 pub struct Challenge {
     pub data: u64,
     pub size: u64,
@@ -17,7 +17,7 @@ pub struct Challenge {
 }
 
 #[repr(C)]
-#[derive(Drop)]
+#[derive(Clone, Copy)]
 pub struct Sent {
     pub items: [Challenge; 16],
     pub count: usize,

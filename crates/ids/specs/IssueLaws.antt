@@ -23,7 +23,7 @@ use Rattle.tables.specs.Laws.{live_long, live_of}
 use Rattle.tables.specs.declared.sequences.Queue.{Queue}
 use Rattle.tables.specs.declared.items.Table.{Table}
 use Rattle.ids_state.specs.Formed.{well_formed}
-use Rattle.ids_state.specs.Laws.{facts}
+use Rattle.ids_state.proofs.Laws.{facts}
 use Rattle.ids_state.specs.declared.state.Ids.{Ids}
 use Rattle.ids.specs.Reading.{item_view, view, item_of, ids_of, path_formed_of, issued_at, freed_at, issued_of, freed_of}
 use Rattle.ids.specs.ReadingLaws.{token_back, path_back, present_given, item_parts, snoc_back, source_well, scids_back, scids_long, advertise_long, view_is}

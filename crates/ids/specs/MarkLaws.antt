@@ -12,7 +12,7 @@ use Rattle.tables.specs.Table.{live, entries, table_of, queue_of}
 use Rattle.tables.specs.declared.sequences.Queue.{Queue}
 use Rattle.tables.specs.declared.items.Table.{Table}
 use Rattle.ids_state.specs.Formed.{well_formed}
-use Rattle.ids_state.specs.Laws.{facts}
+use Rattle.ids_state.proofs.Laws.{facts}
 use Rattle.ids_state.specs.declared.state.Ids.{Ids}
 use Rattle.ids.specs.Reading.{item_view, item_of, ids_of, view, done_at, done_of}
 use Rattle.ids.specs.ReadingLaws.{scids_back, dcids_back, advertise_long, retire_long, view_is}

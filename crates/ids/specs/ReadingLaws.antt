@@ -17,7 +17,7 @@ use Rattle.ids_rules.specs.View.{View}
 use Rattle.tables.specs.Table.{zero_item, live, entries, table_of, queue_of, TableWell, QueueWell}
 use Rattle.tables.specs.Laws.{entries_long, queue_is, live_long, table_is}
 use Rattle.ids_state.specs.Formed.{well_formed}
-use Rattle.ids_state.specs.Laws.{zeros_is, Facts, facts}
+use Rattle.ids_state.proofs.Laws.{zeros_is, Facts, facts}
 use Rattle.ids_state.specs.declared.state.Ids.{Ids}
 use Rattle.ids.specs.Reading.{item_view, view, token_of, path_of, item_of, ids_of, path_formed_of}
 use Rattle.tables.specs.declared.items.Item as I

@@ -11,7 +11,7 @@ use Rattle.ids_rules.specs.Calls as C
 use Rattle.tables.specs.Table.{live, seq_of}
 use Rattle.ids_state.specs.declared.state.Ids.{Ids}
 use Rattle.ids_rules.specs.Promise.{counted}
-use Rattle.ids_rules.specs.BelowExample.{late, long, answers}
+use Rattle.ids_rules.proofs.BelowExample.{late, long, answers}
 use Rattle.ids.specs.Reading.{view, fresh_ids}
 use Rattle.ids.specs.Runs.{CodeCall, SetInitialDcid, SetScidLimit, AddScid, RetireScid, AddDcid, MarkScidUsed, MarkDcidUsed, MarkScidToAdvertise, MarkDcidToRetire, Reads, Started, started, Event, refusal_in, calls, issues, history, remaining, source_seqs, none_below}
 use Rattle.ids.specs.RunsProof.{complete, without_gap_lem, table_is_history_lem, none_below_lem}

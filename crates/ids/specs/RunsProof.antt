@@ -17,12 +17,12 @@ use Rattle.ids_rules.specs.Steps.{fresh, zero_view, fresh_formed, fresh_call}
 use Rattle.ids_rules.specs.Well.{well}
 use Rattle.ids_rules.specs.Calls.{Query, GetScid, GetDcid, FindScid, UnusedScids, UnusedDcids, LowestUnusedDcidSeq, NextScidToAdvertise, NextDcidToRetire, CreateNewConnectionIdFrame, NeedSendCidControlFrames, ZeroLengthScid, ZeroLengthDcid, ScidCount, ScidAt, DcidCount, DcidAt}
 use Rattle.ids_rules.specs.Calls.{Call, query_formed, call_formed, step, apply, after, run}
-use Rattle.ids_rules.specs.Ends.{AddScidEnds, refuses, raises, issues as issues-one, RetireScidEnds, unissued, only, absent, out, frees, AddDcidEnds, rejects, again, waits, late4, late, lowers, renews, adds, add_scid_ends, retire_scid_ends, add_dcid_ends}
+use Rattle.ids_rules.proofs.Ends.{AddScidEnds, refuses, raises, issues as issues-one, RetireScidEnds, unissued, only, absent, out, frees, AddDcidEnds, rejects, again, waits, late4, late, lowers, renews, adds, add_scid_ends, retire_scid_ends, add_dcid_ends}
 use Rattle.ids_rules.specs.Laws.{decided, or_neither}
-use Rattle.ids_rules.specs.Once.{reply_quiet}
-use Rattle.ids_rules.specs.Below.{never_early, first_early}
+use Rattle.ids_rules.proofs.Once.{reply_quiet}
+use Rattle.ids_rules.proofs.Below.{never_early, first_early}
 use Rattle.ids_rules.specs.Promise.{Starts, starts, issued_by, counted, sequences, never_after}
-use Rattle.ids_rules.specs.Promised.{promised}
+use Rattle.ids_rules.proofs.Promised.{promised}
 use Rattle.tables.specs.Table.{live, at_least}
 use Rattle.ids_state.specs.Formed.{well_formed}
 use Rattle.ids_state.specs.declared.state.Ids.{Ids}

@@ -15,7 +15,7 @@ use Rattle.ids_rules.specs.Well.{rising_within, distinct, limits, source, destin
 use Rattle.ids_rules.specs.Calls.{Call, call_formed, step, apply}
 use Rattle.tables.specs.Table.{zero_item, live, table_of}
 use Rattle.ids_state.specs.Formed.{is_zero, apart, sources_formed, destinations_formed, bounded, well_formed}
-use Rattle.ids_state.specs.Laws.{Facts, facts}
+use Rattle.ids_state.proofs.Laws.{Facts, facts}
 use Rattle.ids_state.specs.declared.state.Ids.{Ids}
 use Rattle.ids.specs.Reading.{item_view, view, token_of, path_of, item_of, ids_of, path_formed_of}
 use Rattle.ids.specs.ReadingLaws.{present_given, item_parts, scids_long, dcids_long, advertise_long, retire_long}

@@ -5,7 +5,7 @@ use values::{ConnectionId, Counted, Done, Numbered, ResetToken};
 
 // An item, or none: then it is zero.
 #[repr(C)]
-#[derive(Drop)]
+#[derive(Clone, Copy)]
 pub struct ItemAnswer {
     pub refusal: u8,
     pub present: bool,
@@ -14,7 +14,7 @@ pub struct ItemAnswer {
 
 // A sequence with its optional path, or none: then all are zero.
 #[repr(C)]
-#[derive(Drop)]
+#[derive(Clone, Copy)]
 pub struct FoundAnswer {
     pub refusal: u8,
     pub present: bool,
@@ -25,7 +25,7 @@ pub struct FoundAnswer {
 
 // The fields of a NEW_CONNECTION_ID frame (RFC 9000, 19.15).
 #[repr(C)]
-#[derive(Drop)]
+#[derive(Clone, Copy)]
 pub struct FrameAnswer {
     pub refusal: u8,
     pub seq: u64,
@@ -36,7 +36,7 @@ pub struct FrameAnswer {
 
 // The sequences that left the table while a path used them.
 #[repr(C)]
-#[derive(Drop)]
+#[derive(Clone, Copy)]
 pub struct RetiredAnswer {
     pub refusal: u8,
     pub used: Used,
@@ -44,61 +44,61 @@ pub struct RetiredAnswer {
 
 // What a call that changes the state gives.
 #[repr(C)]
-#[derive(Drop)]
+#[derive(Clone, Copy)]
 pub struct DoneOut {
     pub ids: Ids,
     pub answer: Done,
 }
 
 #[repr(C)]
-#[derive(Drop)]
+#[derive(Clone, Copy)]
 pub struct IssuedOut {
     pub ids: Ids,
     pub answer: Counted,
 }
 
 #[repr(C)]
-#[derive(Drop)]
+#[derive(Clone, Copy)]
 pub struct FreedOut {
     pub ids: Ids,
     pub answer: Numbered,
 }
 
 #[repr(C)]
-#[derive(Drop)]
+#[derive(Clone, Copy)]
 pub struct RetiredOut {
     pub ids: Ids,
     pub answer: RetiredAnswer,
 }
 
 // What the forms of acts.rt give, and the steps of add_dcid: the fields that the call may change, and its answer.
-#[derive(Drop)]
+#[derive(Clone, Copy)]
 pub struct TableParts {
     pub table: Table,
     pub answer: Done,
 }
 
-#[derive(Drop)]
+#[derive(Clone, Copy)]
 pub struct QueueParts {
     pub queue: Queue,
     pub answer: Done,
 }
 
-#[derive(Drop)]
+#[derive(Clone, Copy)]
 pub struct InitialParts {
     pub dcids: Table,
     pub zero_length_dcid: bool,
     pub answer: Done,
 }
 
-#[derive(Drop)]
+#[derive(Clone, Copy)]
 pub struct LimitParts {
     pub scid_limit: u64,
     pub scid_capacity: usize,
     pub answer: Done,
 }
 
-#[derive(Drop)]
+#[derive(Clone, Copy)]
 pub struct IssuedParts {
     pub scids: Table,
     pub scids_to_advertise: Queue,
@@ -107,14 +107,14 @@ pub struct IssuedParts {
     pub answer: Counted,
 }
 
-#[derive(Drop)]
+#[derive(Clone, Copy)]
 pub struct FreedParts {
     pub scids: Table,
     pub retire_prior_to: u64,
     pub answer: Numbered,
 }
 
-#[derive(Drop)]
+#[derive(Clone, Copy)]
 pub struct RetiredParts {
     pub dcids: Table,
     pub dcids_to_retire: Queue,

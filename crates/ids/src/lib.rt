@@ -1,6 +1,8 @@
 // The connection IDs of a QUIC endpoint, after the Rust's cid.rs. calls.rt has the published calls; acts.rt has those that change the state, as what they
 // change; what a call does to a well-formed state stands in the modules beside them. Every contract is an equation with the definition of `ids_rules` on the
 // view of the state (specs/Reading.antt), or with one on a table or a queue (specs/Acts.antt).
+#![tactic(auto)]
+
 mod acts;
 mod adds;
 mod answers;

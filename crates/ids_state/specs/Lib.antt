@@ -1,4 +1,3 @@
 pub mod Formed
-pub mod Laws
 pub mod Broken
 pub mod Conjuncts

@@ -2,7 +2,7 @@
 use tables::{Queue, Table};
 
 #[repr(C)]
-#[derive(Drop)]
+#[derive(Clone, Copy)]
 pub struct Ids {
     // The source IDs, which we issued, and the destination IDs, which the peer issued.
     pub scids: Table,

@@ -18,8 +18,8 @@ use Rattle.paths_state.specs.Laws.{path_facts}
 use Rattle.paths_state.specs.declared.state.Path as S
 use Rattle.paths_rules.specs.State.{Path, Challenge}
 use Rattle.paths_rules.specs.With.{with_ask, with_sent, with_active_of}
-use Rattle.paths_rules.specs.Path.{pop, receive, roomed, due, last_size, matching, unmatched, carries, matches, heeds, spans, largest_after, validates, matched, respond, reached, promote, rank_validated, rank_validating_mtu}
-use Rattle.paths_rules.specs.Steps.{heeds_is, deaf}
+use Rattle.paths_rules.specs.Path.{pop, receive, due, last_size, matching, unmatched, carries, matches, heeds, spans, largest_after, validates, matched, respond, reached, promote, rank_validated, rank_validating_mtu}
+use Rattle.paths_rules.proofs.Steps.{heeds_is, deaf}
 use Rattle.path.specs.Reading.{chal_view, chal_of, path_view, path_of}
 use Rattle.path.specs.ReadingLaws.{chals_is}
 use Rattle.path.specs.FieldLaws.{back}

@@ -12,7 +12,6 @@ use Rattle.challenges.specs.declared.sent.Sent.{Sent}
 use Rattle.paths_state.specs.Formed.{path_formed_of, seq_formed}
 use Rattle.paths_state.specs.Laws.{path_facts}
 use Rattle.paths_state.specs.declared.state.Path as S
-use Rattle.paths_rules.specs.State.{Path}
 use Rattle.paths_rules.specs.With.{with_ask, with_scid_of, with_dcid_of, with_active_of, with_verified, with_ping}
 use Rattle.paths_rules.specs.Path.{new_path_of, first_path_of, unused, in_use, needs_frames, allowed, unlist}
 use Rattle.paths_rules.specs.Table.{ping_in_use_of}

@@ -1,4 +1,6 @@
 // One path, after the Rust's `impl Path`: what each event does to it. A result is the one state of the path that the definition gives.
+#![tactic(auto)]
+
 mod chals;
 mod credit;
 mod fields;

@@ -13,7 +13,7 @@ use values::Moment;
 use values::limits::MIN_CLIENT_INITIAL_LEN;
 
 // The path after a response, the spans of its matches, and whether it made the path Validated.
-#[derive(Drop)]
+#[derive(Clone, Copy)]
 pub struct Answer {
     pub path: Path,
     pub spans: Spans,

@@ -17,7 +17,7 @@ use Rattle.paths_rules.specs.Table.{Table, Answer, Out, Nothing, Inserted, Respo
 use Rattle.paths_rules.specs.Well.{well}
 use Rattle.paths_rules.specs.Calls.{Call, Act, Read, Survey, On, Look, Ask, Insert, call_formed, step, apply, after, run, answer, seen, survey, active_out}
 use Rattle.paths_rules.specs.Promise.{Starts, starts, Amounts, nothing}
-use Rattle.paths_rules.specs.Steps.{both, survey_same}
+use Rattle.paths_rules.proofs.Steps.{both, survey_same}
 use Rattle.paths_state.specs.Formed.{well_formed, zero_path}
 use Rattle.paths_state.specs.declared.state.Path.{Path}
 use Rattle.paths_state.specs.declared.state.Paths.{Paths}
@@ -39,9 +39,9 @@ use Rattle.paths_rules.specs.Calls as C
 use Rattle.paths_rules.specs.Path as R
 use Rattle.paths_rules.specs.State as Rec
 use Rattle.paths_rules.specs.Promise as P
-use Rattle.paths_rules.specs.Kept as K
-use Rattle.paths_rules.specs.Proof as D
-use Rattle.paths_rules.specs.Frame as F
+use Rattle.paths_rules.proofs.Kept as K
+use Rattle.paths_rules.proofs.Promised as D
+use Rattle.paths_rules.proofs.Frame as F
 
 -- ---- the contract is `apply`, or refusal 1
 

@@ -5,7 +5,7 @@ use values::{Address, Counted, Done, Numbered};
 
 // A whole path.
 #[repr(C)]
-#[derive(Drop)]
+#[derive(Clone, Copy)]
 pub struct PathAnswer {
     pub refusal: u8,
     pub path: Path,
@@ -13,7 +13,7 @@ pub struct PathAnswer {
 
 // A whole path and its id.
 #[repr(C)]
-#[derive(Drop)]
+#[derive(Clone, Copy)]
 pub struct FoundAnswer {
     pub refusal: u8,
     pub id: u64,
@@ -21,7 +21,7 @@ pub struct FoundAnswer {
 }
 
 #[repr(C)]
-#[derive(Drop)]
+#[derive(Clone, Copy)]
 pub struct AddressAnswer {
     pub refusal: u8,
     pub address: Address,
@@ -29,7 +29,7 @@ pub struct AddressAnswer {
 
 // Whether the path is now Validated, and a span for each challenge that the response matched. Where it matched none, nothing has changed.
 #[repr(C)]
-#[derive(Drop)]
+#[derive(Clone, Copy)]
 pub struct RespondedAnswer {
     pub refusal: u8,
     pub yes: bool,
@@ -38,7 +38,7 @@ pub struct RespondedAnswer {
 
 // What a call that changes the state gives: the state first, which saves a lent caller a copy.
 #[repr(C)]
-#[derive(Drop)]
+#[derive(Clone, Copy)]
 pub struct DoneOut {
     pub paths: Paths,
     pub answer: Done,
@@ -46,7 +46,7 @@ pub struct DoneOut {
 
 // insert_path: the id.
 #[repr(C)]
-#[derive(Drop)]
+#[derive(Clone, Copy)]
 pub struct InsertedOut {
     pub paths: Paths,
     pub answer: Counted,
@@ -54,14 +54,14 @@ pub struct InsertedOut {
 
 // pop_recv_chal: the data of the challenge, or none.
 #[repr(C)]
-#[derive(Drop)]
+#[derive(Clone, Copy)]
 pub struct PoppedOut {
     pub paths: Paths,
     pub answer: Numbered,
 }
 
 #[repr(C)]
-#[derive(Drop)]
+#[derive(Clone, Copy)]
 pub struct RespondedOut {
     pub paths: Paths,
     pub answer: RespondedAnswer,
@@ -69,7 +69,7 @@ pub struct RespondedOut {
 
 // What a call on one path leaves: the path at the place, and all else as it was. Where nothing changes, it is the path that stands there.
 #[repr(C)]
-#[derive(Drop)]
+#[derive(Clone, Copy)]
 pub struct PathParts {
     pub path: Path,
     pub place: usize,
@@ -77,7 +77,7 @@ pub struct PathParts {
 }
 
 #[repr(C)]
-#[derive(Drop)]
+#[derive(Clone, Copy)]
 pub struct PoppedParts {
     pub path: Path,
     pub place: usize,
@@ -85,7 +85,7 @@ pub struct PoppedParts {
 }
 
 #[repr(C)]
-#[derive(Drop)]
+#[derive(Clone, Copy)]
 pub struct RespondedParts {
     pub path: Path,
     pub place: usize,

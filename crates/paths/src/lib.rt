@@ -1,5 +1,7 @@
 // The paths of a QUIC endpoint, after the Rust's path.rs. calls.rt has the published calls; what a call does to a well-formed state stands in the
 // modules beside it. Every contract is an equation with the definition of `paths_rules` on the view of the state (specs/Reading.antt).
+#![tactic(auto)]
+
 mod acts;
 mod answers;
 mod blanks;

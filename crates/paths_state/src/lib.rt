@@ -1,4 +1,6 @@
 // The state of the paths, and the test that it is well formed. docs/RULES.md, "Well-formed paths".
+#![tactic(auto)]
+
 mod form;
 mod state;
 mod test;

@@ -8,7 +8,7 @@ use values::{Address, FourTuple};
 // `listed`: the path is the one that its pair names, as in the Rust's map from pairs to ids. The wide fields come first and the flags last, so that the
 // compiler can test several at a time.
 #[repr(C)]
-#[derive(Drop)]
+#[derive(Clone, Copy)]
 pub struct Path {
     pub pair: FourTuple,
     pub recv_chals: Received,
@@ -31,7 +31,7 @@ pub struct Path {
 }
 
 #[repr(C)]
-#[derive(Drop)]
+#[derive(Clone, Copy)]
 pub struct Paths {
     pub items: [Path; 8],
     pub count: usize,
@@ -43,7 +43,7 @@ pub struct Paths {
 
 // What the test of a state gives: whether it is well formed, and what a call on one path needs of it. `path` stands at `place`, which is the id asked for where
 // a path has it.
-#[derive(Drop)]
+#[derive(Clone, Copy)]
 pub struct Look {
     pub path: Path,
     pub place: usize,

@@ -1,0 +1,21 @@
+-- The state's test chooses between what the table answers and refusal 1.
+use Rattle.std.specs.Prelude.{true, false}
+use Rattle.std.proofs.Common.{sym, ◌∙◌}
+use Rattle.std.proofs.Math.Option.{none}
+use Rattle.ids.specs.CallLaws.{chosen, state_test}
+use Rattle.ids.specs.Reading.{view, numbered_of}
+use Rattle.ids.specs.ReadingLaws.{destination_well}
+use Rattle.ids_rules.specs.Calls.{reply, LowestUnusedDcidSeq}
+use Rattle.values.specs.Answers.{numbered_at}
+use Rattle.ids.proofs.calls.lowest_unused_dcid_seq.Goals as goal
+
+pub lowest-requires : goal.lowest-requires
+lowest-requires c = destination_well c.args.s (sym c.formed.ensures ∙ c.if-formed.true)
+
+pub returns-then-formed : goal.returns-then-formed
+returns-then-formed c =
+    c.lowest.ensures ∙ chosen c.args.s true (numbered_of (reply (view c.args.s) LowestUnusedDcidSeq)) (numbered_at 1 none) true (state_test c.args.s _ c.formed.ensures true c.if-formed.true)
+
+pub returns-else-formed : goal.returns-else-formed
+returns-else-formed c =
+    c.no_number.ensures ∙ chosen c.args.s true (numbered_of (reply (view c.args.s) LowestUnusedDcidSeq)) (numbered_at 1 none) false (state_test c.args.s _ c.formed.ensures false c.if-formed.false)

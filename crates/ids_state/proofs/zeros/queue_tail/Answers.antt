@@ -1,0 +1,20 @@
+use Rattle.std.specs.Prelude.{refl}
+use Rattle.std.proofs.Common.{arith, rules}
+use Rattle.lists.specs.Whole.{gathered_more, gathered_done}
+use Rattle.values.specs.Limits.{queue_slots}
+use Rattle.ids_state.proofs.zeros.queue_tail.Goals as goal
+
+pub loop-i-init : goal.loop-i-init
+loop-i-init c = refl
+
+pub loop-i-preserved : goal.loop-i-preserved
+loop-i-preserved c =
+    let q = c.args.q in
+    let o = c.loop-i in
+    gathered_more q.count q.items queue_slots (search rules) o.acc o.i o.invariant (omega arith)
+
+pub returns : goal.returns
+returns c =
+    let q = c.args.q in
+    let o = c.loop-i in
+    gathered_done q.count q.items queue_slots (search rules) o.acc o.i o.invariant (omega arith)
