@@ -2,12 +2,10 @@
 -- The state behind the reference is copied whole and passed to g; then it is taken apart to the element, and put together (`PathsCells.antt`), at which the borrow is closed.
 -- Of g it is known that it gives the place, which lies within the list, and the element to put there (`Stored`).
 -- Assumes nothing.
-use mathlib.Core.Path.{◌≡◌, refl, sym, ap, subst}
-use Prim.Native.Nat.{ℕ, suc, ◌+◌}
-use mathlib.Core.List.{List, [], ◌∷◌}
-use lib.ListN.{set}
-use seplogic.Ra.TreeShare.{full_share}
-use mir.Syntax.{Name, Fn, local, value_local, named, mut, ty_ref, ty_ptr, ty_int, w64, deref, field, place, copy, int, rv_opd, op2, mul, unsigned, offset, addr_of, seq, assign, call, return}
+use Rattle.std.specs.Prelude.{◌≡◌, refl, ℕ, suc, ◌+◌, List, [], ◌∷◌, set}
+use Rattle.std.proofs.Common.{sym, ap, subst}
+use base.Fraction.{full_share}
+use mir.Syntax.{Callee, Fn, local, value_local, named, mut, ty_ref, ty_ptr, ty_int, w64, deref, field, place, copy, int, rv_opd, op2, mul, unsigned, offset, addr_of, seq, assign, call, return}
 use mir.Val.{Val, vptr}
 use base.Logic.{all, id⊢}
 use base.Fml.{ftrue, fat, flft}
@@ -25,8 +23,6 @@ use denote.Triple.Call.{calls_at}
 use denote.Triple.Clauses.{ensured}
 use Rattle.paths.specs.Acts.{Stored}
 use Rattle.paths_state.specs.declared.state.Paths.{Paths}
-use Rattle.paths_state.specs.contracts.state.Path as Pathᵀ
-use Rattle.paths_state.proofs.state.Path.TheLaws as Pathᴸ
 use Rattle.vignorasc.specs.PathsCells.{R as E, elems, put, elems_set, times, inside, still_long, Back, apart, whole}
 use Rattle.lent.specs.Kind.{Kind, row, Sort, kind, Part, Args, Ts, out, back, told, count, past, locals, copies, past_is, alloc_all, pass_all, forget_all, free_all, found, found_at, part, opds_at, loads}
 use Rattle.vignorasc.proofs.Sorts.{u64, paths, path}
@@ -57,10 +53,12 @@ module _ (Ps : List Kind) (A : Sort) (R : Kind) (parts : Placing A R) {O : Type 
   }
 
   -- after the parameters, the locals are a, i, y, the copy of the state, and where the element lies: as a distance, and two pointers
-  abbrev pub code : Name → Fn
+  abbrev pub code : Callee → Fn
   code #g = record {
     lifetimes = 1;
     outlives = [];
+    ty_params = [];
+    givens = 0;
     params = suc (count Ps);
     locals = local R.τ value_local ∷ local (ty_ref (named 0) mut (pointee (kind paths).written)) value_local ∷ locals Ps (local (kind A).τ value_local ∷ local (ty_int w64) value_local ∷ local (kind path).τ value_local
         ∷ local (kind paths).τ value_local ∷ local (ty_int w64) value_local ∷ local ty_ptr value_local ∷ local ty_ptr value_local ∷ []);
@@ -103,12 +101,12 @@ module _ (Ps : List Kind) (A : Sort) (R : Kind) (parts : Placing A R) {O : Type 
       rewrite ! 7 (λ (n : ℕ). ‵ (fat full_share ty_ptr l8 0 (vptr b n))) (sym (place_is 712 (o + 0) (parts.at.get r))) refl $
       -- the state is taken apart, and one element out
       use1 𝓛 (‵ (fat full_share (kind paths).τ b o ((kind paths).val h))) (𝓛.laws.raw_at full_share (kind paths).τ b o ((kind paths).val h)) $ use1 𝓛 (‵ (elements E full_share (elems h.items) b (o + 0)) ⊛ raw (all 𝓤 (Back 𝓛 b o h))) (apart 𝓛 b o h was) $ split ! $
-      elem_out ! E (Is E) (shows 𝓛 E) (λ y. (Pathᴸ.the_field_laws).val y ∷ []) (Pathᴸ.the_field_laws).tells full_share (elems h.items) (parts.at.get r) ((Pathᵀ.the_field).into (parts.item.get r)) b (o + 0) (inside h was (parts.at.get r) e.within) (λ _.
+      elem_out ! E (Is E) (shows 𝓛 E) (λ y. (kind path).val y ∷ []) (kind path).tells full_share (elems h.items) (parts.at.get r) (parts.item.get r) b (o + 0) (inside h was (parts.at.get r) e.within) (λ _.
       assigns ! (of_opd ! (load ! (found ! (past_is Ps bs _ 2 _)) (look ! 18 refl))) (found_at ! (past_is Ps bs _ 6 _) (hop ! (look ! 10 refl) (stop !))) (store_raw ! 0 refl ((kind path).typed 𝓛 (parts.item.get r) _ (parts.item.ok r (its placed r v got))).0) $
       assigns ! (of_opd ! (part ! 22 A R parts.answer r (past_is Ps bs _ 0 _) refl)) (from ! (stop !)) (init ! 26 refl (R.typed 𝓛 (parts.answer.get r) _ (parts.answer.ok r (its placed r v got))).0) $
       -- it is put back, the state is put together, and the borrow is closed
       move ! (1 ∷ []) $ drop ! $ owned ! (row (kind path)) (Is (row (kind path))) ((kind path).makes 𝓛) (parts.item.get r) _ (parts.item.ok r (its placed r v got)) $ move ! (1 ∷ 0 ∷ []) $
-      elem_put ! E full_share (elems h.items) (parts.at.get r) ((Pathᵀ.the_field).into (parts.item.get r)) ((kind path).val (parts.item.get r) ∷ []) b (o + 0) (inside h was (parts.at.get r) e.within) $
+      elem_put ! E full_share (elems h.items) (parts.at.get r) (parts.item.get r) ((kind path).val (parts.item.get r) ∷ []) b (o + 0) (inside h was (parts.at.get r) e.within) $
       rewrite ! 0 (λ (ys : List E.Denot). ‵ (elements E full_share ys b (o + 0))) (elems_set h.items (parts.at.get r) (parts.item.get r)) refl $
       use2 𝓛 (given (Is (row (kind paths)) (stored h r) ((kind paths).val (stored h r) ∷ [])) (‵ (fat full_share (kind paths).τ b o ((kind paths).val (stored h r))))) (whole 𝓛 b o h was (set h.items (parts.at.get r) (parts.item.get r)) (still_long h was (parts.at.get r) (parts.item.get r))) $ learn ! (λ made.
       use1 𝓛 (‵ (cell_at full_share ((kind paths).τ ∷ []) ((kind paths).val (stored h r) ∷ []) b o)) (𝓛.laws.at_raw full_share (kind paths).τ b o ((kind paths).val (stored h r))) $

@@ -1,7 +1,6 @@
 -- A call that stores fields of the lent `Ids`, where the callee gives those that it may change, and the answer: `lent`'s `Store.antt`, at `Left`.
 -- Assumes nothing.
-use mathlib.Core.Path.{◌≡◌}
-use mathlib.Core.List.{List}
+use Rattle.std.specs.Prelude.{◌≡◌, List}
 use Rattle.lent.specs.Kind.{Kind, Sort, kind, Fields, Part, Args}
 use Rattle.lent.specs.Change.{Call, Theorem}
 use Rattle.lent.specs.Store.{Move, fields, left, code, stores_by}
