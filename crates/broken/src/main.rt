@@ -1,5 +1,7 @@
 // A well-formed state, and 27 states that break one conjunct of docs/RULES.md, "Well-formed IDs", alone: those of ids_state's specs/Broken.antt, under the
 // same names. Two published calls are made on each, one that changes the state and one that reads it. They refuse every broken state with 1 and leave it.
+#![tactic(auto)]
+
 ghost use Rattle.std.specs.Prelude.{◌≤◌};
 
 mod name;
@@ -8,45 +10,46 @@ mod states;
 mod tell;
 
 use ids_state::Ids;
+use std::io;
 use values::refusals::{ACCEPTED, MALFORMED};
 
 const BROKEN: u64 = 27;
 
 // Both calls are refused with 1, and the state comes back as it was.
-fn refuses(s: Ids) -> bool {
+fn refuses(rt: &impl Print, s: Ids) -> io::Result<bool> {
     let o = ids::set_scid_limit(s, 8);
     let a = ids::unused_dcids(s);
     let t = o.ids;
     let kept = same::ids(s, t);
     if (o.answer.refusal == MALFORMED) & (a.refusal == MALFORMED) {
         if kept {
-            tell::say(b"refused with 1, state unchanged\n");
+            tell::say(rt, "refused with 1, state unchanged\n")?;
         } else {
-            tell::say(b"refused with 1, state CHANGED\n");
+            tell::say(rt, "refused with 1, state CHANGED\n")?;
         }
-        return kept;
+        return Ok(kept);
     }
-    tell::say(b"NOT refused\n");
-    false
+    tell::say(rt, "NOT refused\n")?;
+    Ok(false)
 }
 
-fn accepts(s: Ids) {
+fn accepts(rt: &impl Print, s: Ids) -> io::Result<()> {
     let o = ids::set_scid_limit(s, 8);
     let a = ids::unused_dcids(s);
     if (o.answer.refusal == ACCEPTED) & (a.refusal == ACCEPTED) {
-        tell::say(b"accepted\n");
+        tell::say(rt, "accepted\n")
     } else {
-        tell::say(b"NOT accepted\n");
+        tell::say(rt, "NOT accepted\n")
     }
 }
 
 // One broken state: its conjunct, and what the calls say.
-fn line(k: u64) -> bool {
-    tell::say(b"conjunct ");
-    name::say(k);
-    tell::say(b": ");
+fn line(rt: &impl Print, k: u64) -> io::Result<bool> {
+    tell::say(rt, "conjunct ")?;
+    name::say(rt, k)?;
+    tell::say(rt, ": ")?;
     let s = states::broken(k);
-    refuses(s)
+    refuses(rt, s)
 }
 
 fn one_if(b: bool) -> u64
@@ -59,22 +62,26 @@ fn one_if(b: bool) -> u64
 }
 
 // How many of the broken states are refused.
-fn lines() -> u64 {
+fn lines(rt: &impl Print) -> io::Result<u64> {
     let mut refused: u64 = 0;
     let mut k: u64 = 0;
     while k < BROKEN {
-        refused += one_if(line(k));
+        refused += one_if(line(rt, k)?);
         k += 1;
     }
-    refused
+    Ok(refused)
 }
 
-fn main() {
-    tell::say(b"the good state: ");
-    accepts(states::good());
-    let refused = lines();
-    tell::number(refused);
-    tell::say(b" of ");
-    tell::number(BROKEN);
-    tell::say(b" broken states refused\n");
+fn told(rt: &impl Print) -> io::Result<()> {
+    tell::say(rt, "the good state: ")?;
+    accepts(rt, states::good())?;
+    let refused = lines(rt)?;
+    tell::number(rt, refused)?;
+    tell::say(rt, " of ")?;
+    tell::number(rt, BROKEN)?;
+    tell::say(rt, " broken states refused\n")
+}
+
+fn main(rt: HostRuntime) -> io::Result<()> {
+    told(&rt)
 }

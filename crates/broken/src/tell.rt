@@ -1,10 +1,10 @@
 // Words and numbers on standard output.
-use libc::STDOUT_FILENO;
+use std::io;
 
-pub fn say(s: &[u8]) {
-    io::write_all(STDOUT_FILENO, s);
+pub fn say(rt: &impl Print, s: &str) -> io::Result<()> {
+    print!(rt; "{s}")
 }
 
-pub fn number(n: u64) {
-    io::print_decimal(STDOUT_FILENO, n);
+pub fn number(rt: &impl Print, n: u64) -> io::Result<()> {
+    print!(rt; "{n}")
 }

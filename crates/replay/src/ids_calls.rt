@@ -5,7 +5,7 @@ use ids_state::Ids;
 use values::ResetToken;
 
 // The state after a call, and the place after its line.
-#[derive(Drop)]
+#[derive(Clone, Copy)]
 pub struct IdsLine {
     pub ids: Ids,
     pub at: usize,

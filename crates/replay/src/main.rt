@@ -1,6 +1,8 @@
 // Answers a trace: fixed-width call records from standard input, a line for each on standard output (docs/TRACES.md). The oracle answers the same
 // records by the Rust, and the two outputs are compared byte for byte.
-ghost use Rattle.std.specs.Prelude.{◌≡◌, length};
+#![tactic(auto)]
+
+ghost use Rattle.std.specs.Prelude.{◌≡◌, ◌≤◌, IfOk, length};
 
 mod answers;
 mod digest;
@@ -17,13 +19,14 @@ mod timers_calls;
 mod values_calls;
 
 use ids_state::Ids;
-use libc::{STDIN_FILENO, STDOUT_FILENO};
 use paths_state::Paths;
 use record::Record;
+use std::io;
+use std::io::Read;
 use timers::TimerTable;
 
 // The states that the calls work on, and the place after what is written.
-#[derive(Drop)]
+#[derive(Clone, Copy)]
 struct States {
     timers: TimerTable,
     ids: Ids,
@@ -113,14 +116,14 @@ fn step(s: States, rec: &[u8], out: &mut [u8]) -> States {
 }
 
 // Writes what has gathered.
-fn flushed(s: States, out: &[u8]) -> States {
+fn flushed(rt: &impl Print, s: States, out: &[u8]) -> io::Result<States> {
     let n = s.at;
     let mut u = s;
     if n <= out.len() {
-        io::write_all(STDOUT_FILENO, &out[..n]);
+        rt.write_all(&out[..n])?;
     }
     u.at = 0;
-    u
+    Ok(u)
 }
 
 // The record at place i of the buffer, if it is whole among the first n bytes.
@@ -171,7 +174,22 @@ fn lines() -> [u8; 32768]
     [0; 32768]
 }
 
-fn main() {
+// Reads until the buffer is full or the input ends, and answers how many bytes were read.
+fn read_full(input: &mut impl Read, buf: &mut [u8]) -> io::Result<usize>
+    ensures { IfOk result (λ n. n ≤ length buf.new) }
+{
+    let mut done: usize = 0;
+    while done < buf.len() {
+        let n = input.read(&mut buf[done..])?;
+        if n == 0 {
+            break;
+        }
+        done += n;
+    }
+    Ok(done)
+}
+
+fn main(rt: HostRuntime) -> io::Result<()> {
     let mut space = input();
     let mut page = lines();
     let buf: &mut [u8] = &mut space;
@@ -184,17 +202,19 @@ fn main() {
         count: 0,
         over: false,
     };
+    let mut source = rt.reader();
     // every function ends: a trace of more than 2^40 buffers is cut off
     let mut k: u64 = 0;
     while k < 1099511627776 {
-        let n = io::read_full(STDIN_FILENO, buf);
+        let n = read_full(&mut source, buf)?;
         s = records(s, buf, n, out);
-        s = flushed(s, out);
+        s = flushed(&rt, s, out)?;
         k += 1;
         if (n < 6144) | s.over {
             s = finished(s, n % 96, out);
-            s = flushed(s, out);
+            s = flushed(&rt, s, out)?;
             break;
         }
     }
+    Ok(())
 }

@@ -5,7 +5,7 @@ use paths_state::{Path, Paths};
 use values::Moment;
 
 // The state after a call, and the place after its line.
-#[derive(Drop)]
+#[derive(Clone, Copy)]
 pub struct PathsLine {
     pub paths: Paths,
     pub at: usize,

@@ -3,7 +3,7 @@ ghost use Rattle.std.specs.Prelude.{◌≤◌};
 
 use values::{Address, ConnectionId, FourTuple, Token};
 
-#[derive(Drop)]
+#[derive(Clone, Copy)]
 pub struct Record {
     pub area: [u8; 54],
     pub n0: u64,

@@ -5,7 +5,7 @@ use timers::{TimerTable, TimersOut};
 use values::{Moment, Timed};
 
 // The table after a call, and the place after its line.
-#[derive(Drop)]
+#[derive(Clone, Copy)]
 pub struct TimersLine {
     pub timers: TimerTable,
     pub at: usize,
