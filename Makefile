@@ -27,7 +27,7 @@ bench:
 # The library from C and from Rust: layouts held together, a C program, the crate's tests, a server on loopback whose client changes its address, an
 # installation, the stored sample, and damaged states (FUZZ of them, from SEED).
 host:
-	rt staticlib vignorasc
+	tools/staticlib vignorasc
 	FUZZ=$(FUZZ) SEED=$(SEED) tests/host/run
 
 # What a host links: the archive, the header and pkg-config's file, under PREFIX. DESTDIR goes before it, for packages.
@@ -37,9 +37,9 @@ install: $(LIB)
 	install -m 644 include/vignorasc.h $(DESTDIR)$(PREFIX)/include/vignorasc.h
 	sed -e 's|@PREFIX@|$(abspath $(PREFIX))|' -e "s|@VERSION@|$$(sed -n 's/^version = "\(.*\)"/\1/p' rust/Cargo.toml)|" vignorasc.pc.in > $(DESTDIR)$(PREFIX)/lib/pkgconfig/vignorasc.pc
 
-# Made where it is missing. After an edit, rt staticlib vignorasc makes it again.
+# Made where it is missing. After an edit, tools/staticlib vignorasc makes it again.
 $(LIB):
-	rt staticlib vignorasc
+	tools/staticlib vignorasc
 
 # Wrong answers, two and more for each published call, made in a copy of the code: the prover must refuse each. docs/AUDIT.md.
 audit:

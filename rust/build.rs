@@ -1,4 +1,4 @@
-//! Finds libvignorasc.a: in VIGNORASC_LIB_DIR where that is set; else where `rt staticlib vignorasc` writes it in the repository; else where pkg-config says
+//! Finds libvignorasc.a: in VIGNORASC_LIB_DIR where that is set; else where `tools/staticlib vignorasc` writes it in the repository; else where pkg-config says
 //! that `make install` put it.
 
 use std::env;
@@ -8,7 +8,7 @@ use std::process::{exit, Command};
 const ARCHIVE: &str = "libvignorasc.a";
 const HELP: &str = "\
 Give it one of these ways:
-  rt staticlib vignorasc             in the repository: proves the library and writes target/staticlib/libvignorasc.a
+  tools/staticlib vignorasc          in the repository: proves the library and writes target/staticlib/libvignorasc.a
   make install PREFIX=/usr/local     in the repository: puts it where pkg-config finds it (PKG_CONFIG_PATH names other folders)
   VIGNORASC_LIB_DIR=/its/folder      names the folder of an archive that you have";
 
