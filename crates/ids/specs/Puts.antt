@@ -1,4 +1,4 @@
--- A state with one group of fields changed, as the code changes it: idsOf (withX l v) and putX (xOf l) (idsOf v) compute to the same. Written by tools/records.
+-- A state with one group of fields changed, as the code changes it: ids_of (with_x l v) and put_x (x_of l) (ids_of v) compute to the same. Written by tools/records.
 use Rattle.std.specs.Prelude.{ℕ, Bool}
 use Rattle.tables.specs.declared.sequences.Queue.{Queue}
 use Rattle.tables.specs.declared.items.Table.{Table}

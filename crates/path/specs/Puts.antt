@@ -1,4 +1,4 @@
--- The state of a path with some fields changed, as the code changes them. Each `putX .. (path_of v)` computes to `path_of (withX .. v)`. Written by tools/records.
+-- The state of a path with some fields changed, as the code changes them. Each `put_x .. (path_of v)` computes to `path_of (with_x .. v)`. Written by tools/records.
 use Rattle.std.specs.Prelude.{ℕ, Bool, true, false, not, ◌&&◌, ◌||◌}
 use Rattle.challenges.specs.declared.received.Received.{Received}
 use Rattle.challenges.specs.declared.sent.Sent.{Sent}

@@ -1,6 +1,6 @@
 -- A local that holds a timer table, as memory that can be lent, and back. The walks of this crate cite it.
 --     tv, ov           the machine value of a table, and of what a call that changes one gives
---     out, out-is      the struct of a table and an answer, and that its machine value is made of theirs
+--     out, out_is      the struct of a table and an answer, and that its machine value is made of theirs
 --     ref              the reference to the local b, under the name γ, at h
 --     lies             the local's cell with h's machine value  ⊢  h lies at b
 --     stands           h lies at b  ⊢  the local's cell with h's machine value, and what h owns
