@@ -14,7 +14,7 @@ use Rattle.tables.specs.Table.{zero_item, live, entries, TableWell, QueueWell}
 use Rattle.tables.specs.Laws.{entries_long, live_long, item_at_lem}
 use Rattle.tables.specs.declared.sequences.Queue.{Queue}
 use Rattle.tables.specs.declared.items.Table.{Table}
-use Rattle.ids.specs.Reading.{item_view, item_of, item_at, found_at, frame_at, item_answer_of, found_answer_of, frame_of}
+use Rattle.ids.specs.Reading.{item_view, item_of, item_at_of, found_at, frame_at, item_answer_of, found_answer_of, frame_of}
 use Rattle.ids.specs.ReadingLaws.{path_back, present_given, item_parts, item_back}
 use Rattle.ids.specs.Carry.{first_at, first_none, at_in, at_past, front_some, front_none, all_at}
 use Rattle.ids.specs.declared.answers.ItemAnswer.{ItemAnswer}
@@ -46,7 +46,7 @@ module _ (t : Table) (w : TableWell t) (f : all F.item_formed_of (live t) ≡ tr
     pub get_0 : (x : I.Item) (i : ℕ) → first_with (T.has_seq seq) (live t) ≡ some i → x ≡ get_or (live t) i zero_item → whole x ≡ gets (first (has_seq seq) (map item_view (live t)))
     get_0 x i e q = ap whole (q ∙ sym (item_back (get_or (live t) i zero_item) (formed_at i (place_in t w (T.has_seq seq) i e)))) ∙ sym (ap gets (first_at item_view (has_seq seq) (T.has_seq seq) (λ x. refl) zero_item (live t) i e))
 
-    pub get_2 : first_with (T.has_seq seq) (live t) ≡ none → item_at 2 none ≡ gets (first (has_seq seq) (map item_view (live t)))
+    pub get_2 : first_with (T.has_seq seq) (live t) ≡ none → item_at_of 2 none ≡ gets (first (has_seq seq) (map item_view (live t)))
     get_2 e = sym (ap gets (first_none item_view (has_seq seq) (T.has_seq seq) (λ x. refl) (live t) e))
 
   module _ (i : ℕ) where
@@ -56,7 +56,7 @@ module _ (t : Table) (w : TableWell t) (f : all F.item_formed_of (live t) ≡ tr
     pub at_0 : (d : I.Item) → i < t.count → ◌≡◌ {A = ItemAnswer} (record { refusal = 0; present = true; item = get_or t.items i d }) (maybes (at i (map item_view (live t))))
     at_0 d h = ap whole (read_item i d h) ∙ sym (ap maybes (at_in item_view zero_item i (live t) (omega (arith, live_long t w))))
 
-    pub at_none : t.count ≤ i → item_at 0 none ≡ maybes (at i (map item_view (live t)))
+    pub at_none : t.count ≤ i → item_at_of 0 none ≡ maybes (at i (map item_view (live t)))
     at_none h = sym (ap maybes (at_past item_view i (live t) (omega (arith, live_long t w))))
 
   module _ (cid : ConnectionId) where

@@ -120,8 +120,8 @@ parts_of (Frame s r c t) = parts_at 0 none false [] none none (some (record { se
 
 -- ---- the answers of calls that read, by refusal and part; beside a refusal every part is nothing
 
-abbrev pub item_at : ℕ → Option Item → ItemAnswer
-item_at refusal o = record { refusal = refusal; present = present o; item = maybe o zero_item item_of }
+abbrev pub item_at_of : ℕ → Option Item → ItemAnswer
+item_at_of refusal o = record { refusal = refusal; present = present o; item = maybe o zero_item item_of }
 
 abbrev pub found_at : ℕ → Option Sought → FoundAnswer
 found_at refusal none = record { refusal = refusal; present = false; has_path = false; seq = 0; path = 0 }
@@ -141,7 +141,7 @@ abbrev pub numbered_of : Reply → Numbered
 numbered_of r = numbered_at r.refusal (parts_of r.answer).perhaps
 
 abbrev pub item_answer_of : Reply → ItemAnswer
-item_answer_of r = item_at r.refusal (parts_of r.answer).item
+item_answer_of r = item_at_of r.refusal (parts_of r.answer).item
 
 abbrev pub found_answer_of : Reply → FoundAnswer
 found_answer_of r = found_at r.refusal (parts_of r.answer).sought
@@ -203,7 +203,7 @@ abbrev pub numbered_call : Ids → Query → Numbered
 numbered_call s q = checked s true (numbered_of (reply (view s) q)) (numbered_at 1 none)
 
 abbrev pub item_call : Ids → Query → ItemAnswer
-item_call s q = checked s true (item_answer_of (reply (view s) q)) (item_at 1 none)
+item_call s q = checked s true (item_answer_of (reply (view s) q)) (item_at_of 1 none)
 
 abbrev pub found_call : Ids → (f : Bool) → Query → FoundAnswer
 found_call s f q = checked s f (found_answer_of (reply (view s) q)) (found_at 1 none)

@@ -26,7 +26,7 @@ use Rattle.tables.specs.Table.{live, at_least}
 use Rattle.ids_state.specs.Formed.{well_formed}
 use Rattle.ids_state.specs.declared.state.Ids.{Ids}
 use Rattle.ids.specs.Reading.{view, path_formed_of, done_of, issued_of, freed_of, retired_of, counted_of, flagged_of, numbered_of, item_answer_of, found_answer_of, frame_of}
-use Rattle.ids.specs.Reading.{done_at, issued_at, freed_at, retired_at, item_at, found_at, frame_at}
+use Rattle.ids.specs.Reading.{done_at, issued_at, freed_at, retired_at, item_at_of, found_at, frame_at}
 use Rattle.ids.specs.Reading.{done_call, issued_call, freed_call, retired_call, counted_call, flagged_call, numbered_call, item_call, found_call, frame_call, fresh_ids}
 use Rattle.ids.specs.declared.answers.ItemAnswer.{ItemAnswer}
 use Rattle.ids.specs.declared.answers.FoundAnswer.{FoundAnswer}
@@ -238,7 +238,7 @@ refused_at ARetired n s = Retired (retired_at n [] s)
 refused_at Counts n s = ACount (counted_at n 0)
 refused_at Flags n s = AFlag (flagged_at n false)
 refused_at Numbers n s = ANumber (numbered_at n none)
-refused_at Items n s = AnItem (item_at n none)
+refused_at Items n s = AnItem (item_at_of n none)
 refused_at Finds n s = AFound (found_at n none)
 refused_at Frames n s = AFrame (frame_at n none)
 

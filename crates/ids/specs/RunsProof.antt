@@ -27,7 +27,7 @@ use Rattle.tables.specs.Table.{live, at_least}
 use Rattle.ids_state.specs.Formed.{well_formed}
 use Rattle.ids_state.specs.declared.state.Ids.{Ids}
 use Rattle.ids.specs.Reading.{item_view, view, ids_of, token_of, path_of, parts_of, Sought, Fields, path_formed_of, found_at, frame_at, found_answer_of, frame_of, done_of, issued_of, freed_of, retired_of, counted_of, flagged_of, numbered_of, item_answer_of, checked}
-use Rattle.ids.specs.Reading.{item_at, done_call, issued_call, freed_call, retired_call}
+use Rattle.ids.specs.Reading.{item_at_of, done_call, issued_call, freed_call, retired_call}
 use Rattle.ids.specs.ReadingLaws.{view_of, view_is}
 use Rattle.ids.specs.WellLaws.{view_well, state_well, step_applies}
 use Rattle.ids.specs.Runs.{CodeCall, SetInitialDcid, SetScidLimit, AddScid, RetireScid, AddDcid, MarkScidUsed, MarkDcidUsed, MarkScidToAdvertise, MarkDcidToRetire, Reads, started}
@@ -63,7 +63,7 @@ contract ARetired s f c = Retired (retired_call s f c)
 contract Counts s f c = ACount (checked s f (counted_of (replied (step (view s) c))) (counted_at 1 0))
 contract Flags s f c = AFlag (checked s f (flagged_of (replied (step (view s) c))) (flagged_at 1 false))
 contract Numbers s f c = ANumber (checked s f (numbered_of (replied (step (view s) c))) (numbered_at 1 none))
-contract Items s f c = AnItem (checked s f (item_answer_of (replied (step (view s) c))) (item_at 1 none))
+contract Items s f c = AnItem (checked s f (item_answer_of (replied (step (view s) c))) (item_at_of 1 none))
 contract Finds s f c = AFound (checked s f (found_answer_of (replied (step (view s) c))) (found_at 1 none))
 contract Frames s f c = AFrame (checked s f (frame_of (replied (step (view s) c))) (frame_at 1 none))
 

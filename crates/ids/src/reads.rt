@@ -8,7 +8,7 @@ ghost use Rattle.ids_state.specs.Formed as F;
 ghost use Rattle.ids_rules.specs.View as W;
 ghost use Rattle.ids_rules.specs.Values.{has_cid, has_seq, seq_of, unused};
 ghost use Rattle.ids_rules.specs.Calls.{says, says2};
-ghost use Rattle.ids.specs.Reading.{found_answer_of, found_at, frame_at, frame_of, item_answer_of, item_at, item_view};
+ghost use Rattle.ids.specs.Reading.{found_answer_of, found_at, frame_at, frame_of, item_answer_of, item_at_of, item_view};
 
 use crate::answers::{FoundAnswer, FrameAnswer, ItemAnswer};
 use tables::{Lowest, Queue, Table};
@@ -44,7 +44,7 @@ pub fn no_number(n: u8) -> Numbered
 }
 
 pub fn no_item(n: u8) -> ItemAnswer
-    ensures { result ≡ item_at n none }
+    ensures { result ≡ item_at_of n none }
 {
     let zero = tables::blank();
     ItemAnswer {

@@ -174,19 +174,19 @@ fn lines() -> [u8; 32768]
     [0; 32768]
 }
 
-// Reads until the buffer is full or the input ends, and answers how many bytes were read.
-fn read_full(input: &mut impl Read, buf: &mut [u8]) -> io::Result<usize>
-    ensures { IfOk result (λ n. n ≤ length buf.new) }
+// Reads until the buffer is full, the input ends or a read fails, and counts in `done` the bytes that came: those before a read that fails too.
+fn read_full(input: &mut impl Read, buf: &mut [u8], done: &mut usize) -> io::Result<()>
+    requires { done.old ≤ length buf.old }
+    ensures { done.new ≤ length buf.new }
 {
-    let mut done: usize = 0;
-    while done < buf.len() {
-        let n = input.read(&mut buf[done..])?;
+    while *done < buf.len() {
+        let n = input.read(&mut buf[*done..])?;
         if n == 0 {
             break;
         }
-        done += n;
+        *done += n;
     }
-    Ok(done)
+    Ok(())
 }
 
 fn main(rt: HostRuntime) -> io::Result<()> {
@@ -206,9 +206,12 @@ fn main(rt: HostRuntime) -> io::Result<()> {
     // every function ends: a trace of more than 2^40 buffers is cut off
     let mut k: u64 = 0;
     while k < 1099511627776 {
-        let n = read_full(&mut source, buf)?;
+        let mut n: usize = 0;
+        let read = read_full(&mut source, buf, &mut n);
+        // what came before a read that failed is answered too
         s = records(s, buf, n, out);
         s = flushed(&rt, s, out)?;
+        read?;
         k += 1;
         if (n < 6144) | s.over {
             s = finished(s, n % 96, out);
