@@ -17,7 +17,7 @@ use Rattle.ids_rules.specs.Steps.{fresh, zero_view, fresh_formed, fresh_call}
 use Rattle.ids_rules.specs.Well.{well}
 use Rattle.ids_rules.specs.Calls.{Query, GetScid, GetDcid, FindScid, UnusedScids, UnusedDcids, LowestUnusedDcidSeq, NextScidToAdvertise, NextDcidToRetire, CreateNewConnectionIdFrame, NeedSendCidControlFrames, ZeroLengthScid, ZeroLengthDcid, ScidCount, ScidAt, DcidCount, DcidAt}
 use Rattle.ids_rules.specs.Calls.{Call, query_formed, call_formed, step, apply, after, run}
-use Rattle.ids_rules.proofs.Ends.{AddScidEnds, refuses, raises, issues as issues-one, RetireScidEnds, unissued, only, absent, out, frees, AddDcidEnds, rejects, again, waits, late4, late, lowers, renews, adds, add_scid_ends, retire_scid_ends, add_dcid_ends}
+use Rattle.ids_rules.proofs.Ends.{AddScidEnds, refuses, raises, issues as issues_one, RetireScidEnds, unissued, only, absent, out, frees, AddDcidEnds, rejects, again, waits, late4, late, lowers, renews, adds, add_scid_ends, retire_scid_ends, add_dcid_ends}
 use Rattle.ids_rules.specs.Laws.{decided, or_neither}
 use Rattle.ids_rules.proofs.Once.{reply_quiet}
 use Rattle.ids_rules.proofs.Below.{never_early, first_early}
@@ -376,7 +376,7 @@ not_0 n m k = ap (λ (b : Bool). cond b (m ∷ []) []) (ne_eqb n 0 (λ e. omega 
 add_issued : {x : Item} {advertise : Bool} {v : View} {o : Out} → AddScidEnds x advertise v o → issued_in (Issued (issued_of o)) ≡ issued_by o.answer
 add_issued (refuses n k) = not_0 n 0 k
 add_issued (raises n r k t) = not_0 n 0 k.low
-add_issued (issues-one r t n p l a) = refl
+add_issued (issues_one r t n p l a) = refl
 
 step_issued : (v : View) (c : CodeCall) → issued_in (result_as c (step v (view_call c))) ≡ issued_by (step v (view_call c)).answer
 step_issued v (SetInitialDcid cid token has path) = refl

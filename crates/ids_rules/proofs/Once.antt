@@ -239,8 +239,8 @@ pub table_is_history_lem : TableIsHistory
 table_is_history_lem v f cs = (ran cs v (fresh_well_lem v f)).table ∙ ap (λ (l : List ℕ). remaining l (history v cs)) (begun v f).table
 
 pub never_returns_lem : NeverReturns
-never_returns_lem v f cs ds s was gone-now =
+never_returns_lem v f cs ds s was gone_now =
     let r : Ran v cs = ran cs v (fresh_well_lem v f) in
     let k : has s (counted 0 (suc (length (issues (history v cs))))) ≡ true = ap (λ (l : List ℕ). has s (0 ∷ l)) (sym (without_gap_lem v f cs)) ∙ was in
     rw (run_append cs ds v)
-    (gone s ds (run v cs) (run_well cs v (fresh_well_lem v f)) (omega (arith, counted_below s 0 (suc (length (issues (history v cs)))) k, r.next, (begun v f).next)) gone-now)
+    (gone s ds (run v cs) (run_well cs v (fresh_well_lem v f)) (omega (arith, counted_below s 0 (suc (length (issues (history v cs)))) k, r.next, (begun v f).next)) gone_now)

@@ -719,10 +719,10 @@ unrepeated_late v f n k = test (repeated v f) refl
 
 -- so a rule of late frames that is met but for repeats is met over such calls
 met_over : (R : Rule NewConnectionId) → ((v : View) (f : NewConnectionId) (o : Out) → (f.seq < v.largest_peer_retire_prior_to → R v f o) → R v f o) → MetUnless new_id repeated R → MetOver new_id R
-met_over R of-late m v s cs n f c =
+met_over R of_late m v s cs n f c =
     let w : View = run v cs in
     let low : none_below w ≡ true = none_below_early_lem v s cs [] (subst (λ (l : List Call). never_after sets_initial takes_frame l ≡ true) (sym (append-nil cs)) n) in
-    of-late w f (apply w (new_id f)) (λ k. m w f (run_well cs v (fresh_well_lem v s)) c (unrepeated_late w f low k))
+    of_late w f (apply w (new_id f)) (λ k. m w f (run_well cs v (fresh_well_lem v s)) c (unrepeated_late w f low k))
 
 late_is_retired_lem : MetUnless new_id repeated LateIsRetired
 late_is_retired_lem = met_unless new_id LateIsRetired repeated (λ v f h n. unrepeated (LateIsRetired v f) v f n (λ k z. absurd (omega arith)) (λ c. late_retired v f (ends v f) c))

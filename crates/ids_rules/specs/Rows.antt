@@ -15,14 +15,14 @@ use Rattle.ids_rules.specs.Bounds.{Row, stays, leaves, says, gives, cid, Compute
 
 -- a view, its fields in their order: the tables; the limits and the capacity; the two marks; next, own Retire Prior To, the largest; the queues
 abbrev of : List Item → List Item → ℕ → ℕ → ℕ → Bool → Bool → ℕ → ℕ → ℕ → List ℕ → List ℕ → View
-of scids dcids dcid_limit scid_limit scid_capacity zeroScid zeroDcid next rpt largest advertise retire = record {
+of scids dcids dcid_limit scid_limit scid_capacity zero_scid zero_dcid next rpt largest advertise retire = record {
   scids = scids;
   dcids = dcids;
   dcid_limit = dcid_limit;
   scid_limit = scid_limit;
   scid_capacity = scid_capacity;
-  zero_length_scid = zeroScid;
-  zero_length_dcid = zeroDcid;
+  zero_length_scid = zero_scid;
+  zero_length_dcid = zero_dcid;
   next_scid_seq = next;
   retire_prior_to = rpt;
   largest_peer_retire_prior_to = largest;

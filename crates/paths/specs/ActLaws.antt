@@ -151,20 +151,20 @@ module _ (t : Paths) (id : ℕ) (k : L.Look) (s : Seen t id k) (f g : Bool) (eg 
   -- ---- the changed path, where the call is not refused; then what the call leaves
 
   module _ (y : S.Path) (q : Act) where
-    abbrev changes : Type 0
-    changes = y ≡ cond (eqb n 0) (path_of (effect (view t) q (path_view k.path))) k.path
+    abbrev Changes : Type 0
+    Changes = y ≡ cond (eqb n 0) (path_of (effect (view t) q (path_view k.path))) k.path
 
-    yes : changes → eqb n 0 ≡ true → y ≡ path_of (effect (view t) q (path_view k.path))
+    yes : Changes → eqb n 0 ≡ true → y ≡ path_of (effect (view t) q (path_view k.path))
     yes e z = e ∙ ap (λ (b : Bool). cond b (path_of (effect (view t) q (path_view k.path))) k.path) z
 
-    no : changes → eqb n 0 ≡ false → y ≡ k.path
+    no : Changes → eqb n 0 ≡ false → y ≡ k.path
     no e z = e ∙ ap (λ (b : Bool). cond b (path_of (effect (view t) q (path_view k.path))) k.path) z
 
     leaves : (m : ℕ) → done_at m (put y) ≡ done_call t f (On id q) → Puts t y k.place (done_at m t).answer (done_call t f (On id q))
     leaves m e = record { within = s.within; state = ap (λ (d : DoneOut). d.paths) e; answer = ap (λ (d : DoneOut). d.answer) e }
 
     -- an unknown id is refused
-    pub puts : changes → refusal (view t) id q ≡ unless_known id (view t) → Puts t y k.place (done_at n t).answer (done_call t f (On id q))
+    pub puts : Changes → refusal (view t) id q ≡ unless_known id (view t) → Puts t y k.place (done_at n t).answer (done_call t f (On id q))
     puts e r = leaves n (go (eqb n 0) refl)
       where
         go : (b : Bool) → eqb n 0 ≡ b → done_at n (put y) ≡ done_call t f (On id q)
@@ -172,7 +172,7 @@ module _ (t : Paths) (id : ℕ) (k : L.Look) (s : Seen t id k) (f g : Bool) (eg 
         go false z = acted_no y done_x q (eqb-false n 0 z) (λ h. r ∙ ap (λ (b : Bool). cond b 0 2) h) (no e z)
 
     -- an unknown id is accepted
-    pub puts_excused : changes → refusal (view t) id q ≡ 0 → (m : ℕ) → m ≡ cond (eqb n 2) 0 n → Puts t y k.place (done_at m t).answer (done_call t f (On id q))
+    pub puts_excused : Changes → refusal (view t) id q ≡ 0 → (m : ℕ) → m ≡ cond (eqb n 2) 0 n → Puts t y k.place (done_at m t).answer (done_call t f (On id q))
     puts_excused e r m em = leaves m (go (eqb n 0) refl)
       where
         go : (b : Bool) → eqb n 0 ≡ b → done_at m (put y) ≡ done_call t f (On id q)

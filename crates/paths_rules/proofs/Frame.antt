@@ -133,13 +133,13 @@ respond_credit d multi x =
 
 pub only_credit_lem : OnlyCredit
 only_credit_lem p t c credit charge new =
-    call_holds same p t refl (λ a x k. k) (λ x k. k) c
-    (λ now e. timeout_holds same (λ v x k. k) (λ x k. k) (λ n x k. k) (λ x k. k) now) act (λ a m i e. absurd (new e))
+    call_holds SameCredit p t refl (λ a x k. k) (λ x k. k) c
+    (λ now e. timeout_holds SameCredit (λ v x k. k) (λ x k. k) (λ n x k. k) (λ x k. k) now) act (λ a m i e. absurd (new e))
   where
-    same : Path → Type 0
-    same x = x.credit ≡ (path_at p t).credit
+    SameCredit : Path → Type 0
+    SameCredit x = x.credit ≡ (path_at p t).credit
 
-    act : (a : Act) → refusal t p a ≡ 0 → c ≡ On p a → same (effect t a (path_at p t))
+    act : (a : Act) → refusal t p a ≡ 0 → c ≡ On p a → SameCredit (effect t a (path_at p t))
     act Initiate z e = refl
     act Pop z e = refl
     act (Receive d) z e = refl

@@ -11,7 +11,7 @@ use Rattle.paths_rules.specs.State.{Path, Challenge}
 use Rattle.paths_rules.specs.Path.{zero_path, expire, probing, timeout, carries, matches, matching, unmatched, last_size, reached, largest_after, challenge, heeds, respond, validated, validates}
 use Rattle.paths_rules.specs.With.{with_active_of, with_sent, with_ask, with_lost}
 use Rattle.paths_rules.specs.Path.{promote, rank_failed, rank_validating, rank_validating_mtu, rank_validated, due}
-use Rattle.paths_rules.specs.Table.{Table, Out, Answer, Nothing, Inserted, Number, Flag, Maybe, refused, accepted, path_at, known, on_path, insert, fresh, fresh_formed, zero_table, timer as timerOf}
+use Rattle.paths_rules.specs.Table.{Table, Out, Answer, Nothing, Inserted, Number, Flag, Maybe, refused, accepted, path_at, known, on_path, insert, fresh, fresh_formed, zero_table, timer as timer_of}
 use Rattle.paths_rules.specs.Calls.{Act, Pop, Receive, Send, Respond, Credit, Look, NeedsFrames}
 use Rattle.paths_rules.specs.Calls.{NeedsPadding, Call, On, is_moment, step, apply, after, run, effect, refusal, answer}
 use Rattle.paths_rules.proofs.Steps.{both, decided, never, or_neither, heeds_is, act_keeps, apply_is, act_is, path_is, act_holds, insert_holds, call_holds}
@@ -438,10 +438,10 @@ By d o = (o ≡ none → ⊥) × ((m : ℕ) → o ≡ some m → m ≤ d)
 by_some : (d n : ℕ) → n ≤ d → By d (some n)
 by_some d n h = (λ e. let z : ◌≡◌ {A = ℕ} 0 1 = cc in omega arith, λ m e. let z : n ≡ m = cc in omega arith)
 
-timer_by : (l : List Path) (p : ℕ) (c : Challenge) → front (get_or l p zero_path).sent ≡ some c → By c.deadline (timerOf l)
+timer_by : (l : List Path) (p : ℕ) (c : Challenge) → front (get_or l p zero_path).sent ≡ some c → By c.deadline (timer_of l)
 timer_by [] p c e = let z : ◌≡◌ {A = ℕ} 0 1 = cc in absurd (omega arith)
 timer_by (x ∷ l) zero c e =
-    subst (λ (o : Option Challenge). By c.deadline (least (somes (maybe o none (λ y. some y.deadline) ∷ map due l)))) (sym e) (first (timerOf l))
+    subst (λ (o : Option Challenge). By c.deadline (least (somes (maybe o none (λ y. some y.deadline) ∷ map due l)))) (sym e) (first (timer_of l))
   where
     first : (o : Option ℕ) → By c.deadline (less o c.deadline)
     first none = by_some c.deadline c.deadline (omega arith)
@@ -452,14 +452,14 @@ timer_by (x ∷ l) (suc p) c e = test (due x) (timer_by l p c e)
     more k none h = absurd (h.0 refl)
     more k (some n) h = by_some c.deadline (min n k) (omega (arith, h.1 n refl))
 
-    test : (o : Option ℕ) → By c.deadline (timerOf l) → By c.deadline (least (somes (o ∷ map due l)))
+    test : (o : Option ℕ) → By c.deadline (timer_of l) → By c.deadline (least (somes (o ∷ map due l)))
     test none h = h
-    test (some k) h = more k (timerOf l) h
+    test (some k) h = more k (timer_of l) h
 
 timer_set_lem : Met timer TimerSet
 timer_set_lem = met timer TimerSet (λ t p c e.
     let w = timer_by t.paths p c e in
-    (λ a. w.0 (inside (timerOf t.paths) none a), λ m a. w.1 m (inside (timerOf t.paths) (some m) a)))
+    (λ a. w.0 (inside (timer_of t.paths) none a), λ m a. w.1 m (inside (timer_of t.paths) (some m) a)))
   where
     inside : (o u : Option ℕ) → Maybe o ≡ Maybe u → o ≡ u
     inside o u a = cc

@@ -152,13 +152,13 @@ module _ (P : Path → Type 0) (p : ℕ) (t : Table) (h : P (path_at p t)) where
         test false (some i) k = replaced_holds i a m (λ e. k (ap Inserted e))
 
     -- any step
-    module _ (ping-keeps : (x : Path) → P x → P (with_ping true x)) where
+    module _ (ping_keeps : (x : Path) → P x → P (with_ping true x)) where
       at_holds : (n : ℕ) (o : Option ℕ) → P (path_at p (ping_at n o t).table)
       at_holds n none = h
-      at_holds n (some i) = one_holds i (with_ping true) (λ e. rw e (ping-keeps (path_at p t) h))
+      at_holds n (some i) = one_holds i (with_ping true) (λ e. rw e (ping_keeps (path_at p t) h))
 
       on_ping : (o : Option FourTuple) → P (path_at p (ping_on o t).table)
-      on_ping none = all_holds ping_in_use_of (λ x k. both P (in_use x) (ping-keeps x k) k)
+      on_ping none = all_holds ping_in_use_of (λ x k. both P (in_use x) (ping_keeps x k) k)
       on_ping (some a) = at_holds 0 (first_with (listed_as a) t.paths)
 
       step_holds : (c : Call) → ((now : ℕ) → c ≡ Timeout now → (x : Path) → P x → P (timeout now x))

@@ -1,4 +1,4 @@
--- A local that holds a timer table, as memory that can be lent, and back. The walks of this crate cite it.
+-- A local that holds a timer table, as memory that can be lent, and back: for a walk of code that lends one.
 --     tv, ov           the machine value of a table, and of what a call that changes one gives
 --     out, out_is      the struct of a table and an answer, and that its machine value is made of theirs
 --     ref              the reference to the local b, under the name γ, at h
