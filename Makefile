@@ -50,4 +50,4 @@ sample:
 	tools/sample
 
 clean:
-	rm -rf target oracle/target bench/target rust/target
+	rm -rf target oracle/target bench/target rust/target crates/*/out
