@@ -1,5 +1,5 @@
 -- What is promised of every published call of the connection IDs, on any view and over any run of calls. This file is the statement, to be read alone;
--- that all of it holds is `promised` in Promised.antt.
+-- that all of it holds is `promised` in proofs/Promised.antt.
 --
 -- A View is what a connection's IDs read as: lists and numbers. A Call is a published call with its arguments. `apply v c` is what comes of the call c on
 -- the view v: the number of its refusal, 0 where it is accepted; its answer; and the view that follows. `after v c` is that view, and `run v cs` the view

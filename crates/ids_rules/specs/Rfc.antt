@@ -1,6 +1,6 @@
 -- RFC 9000, sections 5.1.1, 5.1.2, 9.5, 10.3.2, 19.15 and 19.16, as rules on the view before, what came, and what comes of it: which of them the calls
 -- meet, which they meet but for a listed case, and where they differ. D1 to D23, D37 to D39 and D44 are rows of docs/DIFFERENCES.md. The proofs are in
--- RfcProof.antt.
+-- proofs/RfcProof.antt.
 use Rattle.std.specs.Prelude.{ℕ, ◌+◌, ◌*◌, ◌≤◌, ◌<◌, ◌≡◌, List, [], ◌∷◌, Bool, true, false, cond, not, ◌&&◌, ◌||◌, length, replicate, eqb, leb, ltb}
 use Rattle.std.proofs.Math.Option.{Option, none, some}
 use Rattle.lists.specs.Defs.{maybe, present, first, keep, any, all, has}

@@ -1,5 +1,5 @@
 -- What is promised over any run of calls, refused ones too: docs/RULES.md, "Well-formed paths" and "What every published call owes". This file is
--- the statement; the proofs are in Kept.antt, Frame.antt and Proof.antt.
+-- the statement; the proofs are in proofs/: Kept.antt, Frame.antt and Promised.antt.
 use Rattle.std.specs.Prelude.{ℕ, ◌+◌, ◌-◌, ◌*◌, ◌^◌, ◌≤◌, ◌<◌, ◌≡◌, List, [], ◌∷◌, ◌++◌, Bool, true, false, cond, not, ◌&&◌, length, eqb}
 use Rattle.std.proofs.Math.Option.{Option, none, some}
 use Rattle.lists.specs.Defs.{first_with}

@@ -1,6 +1,6 @@
 -- RFC 9000, sections 8, 8.1, 8.2.1 to 8.2.4, 9.3 and 9.4, as rules on the table before a frame or event, the event, and what comes of it; which the
 -- calls meet, which they meet but for a listed case, and where they differ. The ids D25 to D36 and D40 to D43 are rows of docs/DIFFERENCES.md. The proofs
--- are in RfcProof.antt.
+-- are in proofs/RfcProof.antt.
 use Rattle.std.specs.Prelude.{ℕ, ◌+◌, ◌*◌, ◌≤◌, ◌<◌, ◌≡◌, List, [], ◌∷◌, ◌++◌, map, Bool, true, false, not, ◌&&◌, ◌||◌, length, eqb, leb, ltb}
 use Rattle.std.proofs.Math.Option.{none, some}
 use Rattle.lists.specs.Defs.{any, all, empty, front, without}

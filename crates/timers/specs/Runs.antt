@@ -1,5 +1,5 @@
 -- What is promised of the timers' code: of every published call, on any table and over any run of calls. This file is the statement, to be read alone; that
--- all of it holds is `held` in RunsProof.antt.
+-- all of it holds is `held` in proofs/RunsProof.antt.
 --
 -- A CodeCall is a published call with its arguments, of their form or not. `result t c` is what the call c returns on the table t: the contracts of the crates
 -- by_value and vignorasc say so of the code. `made t c` is the table that is in it, or t where the call only reads, and `refusal t c` its number. `calls t cs`
