@@ -2,84 +2,59 @@
 // same names. Two published calls are made on each, one that changes the state and one that reads it. They refuse every broken state with 1 and leave it.
 #![tactic(auto)]
 
-ghost use Rattle.std.specs.Prelude.{◌≤◌};
-
-mod name;
+mod names;
 mod same;
 mod states;
-mod tell;
 
 use ids_state::Ids;
+use names::NAMES;
 use std::io;
-use values::refusals::{ACCEPTED, MALFORMED};
+use values::refusals::ACCEPTED;
 
-const BROKEN: u64 = 27;
+// What a call answers to a state that is not well formed.
+fn malformed() -> u8 {
+    u8::from(values::Refusal::Malformed)
+}
 
 // Both calls are refused with 1, and the state comes back as it was.
 fn refuses(rt: &impl Print, s: Ids) -> io::Result<bool> {
     let o = ids::set_scid_limit(s, 8);
     let a = ids::unused_dcids(s);
-    let t = o.ids;
-    let kept = same::ids(s, t);
-    if (o.answer.refusal == MALFORMED) & (a.refusal == MALFORMED) {
-        if kept {
-            tell::say(rt, "refused with 1, state unchanged\n")?;
-        } else {
-            tell::say(rt, "refused with 1, state CHANGED\n")?;
-        }
-        return Ok(kept);
+    if (o.answer.refusal != malformed()) | (a.refusal != malformed()) {
+        println!(rt; "NOT refused")?;
+        return Ok(false);
     }
-    tell::say(rt, "NOT refused\n")?;
-    Ok(false)
+    let kept = same::ids(&s, &o.ids);
+    let state = if kept { "unchanged" } else { "CHANGED" };
+    println!(rt; "refused with 1, state {state}")?;
+    Ok(kept)
 }
 
 fn accepts(rt: &impl Print, s: Ids) -> io::Result<()> {
     let o = ids::set_scid_limit(s, 8);
     let a = ids::unused_dcids(s);
     if (o.answer.refusal == ACCEPTED) & (a.refusal == ACCEPTED) {
-        tell::say(rt, "accepted\n")
+        println!(rt; "accepted")
     } else {
-        tell::say(rt, "NOT accepted\n")
+        println!(rt; "NOT accepted")
     }
 }
 
-// One broken state: its conjunct, and what the calls say.
-fn line(rt: &impl Print, k: u64) -> io::Result<bool> {
-    tell::say(rt, "conjunct ")?;
-    name::say(rt, k)?;
-    tell::say(rt, ": ")?;
-    let s = states::broken(k);
-    refuses(rt, s)
-}
-
-fn one_if(b: bool) -> u64
-    ensures { result ≤ 1 }
-{
-    if b {
-        return 1;
-    }
-    0
-}
-
-// How many of the broken states are refused.
-fn lines(rt: &impl Print) -> io::Result<u64> {
-    let mut refused: u64 = 0;
-    let mut k: u64 = 0;
-    while k < BROKEN {
-        refused += one_if(line(rt, k)?);
-        k += 1;
+// How many of the broken states are refused: for each, its conjunct, and what the calls say.
+fn refused(rt: &impl Print) -> io::Result<u64> {
+    let mut refused = 0;
+    for (k, name) in NAMES.iter().enumerate() {
+        print!(rt; "conjunct {name}: ")?;
+        refused += u64::from(refuses(rt, states::broken(k))?);
     }
     Ok(refused)
 }
 
 fn told(rt: &impl Print) -> io::Result<()> {
-    tell::say(rt, "the good state: ")?;
+    print!(rt; "the good state: ")?;
     accepts(rt, states::good())?;
-    let refused = lines(rt)?;
-    tell::number(rt, refused)?;
-    tell::say(rt, " of ")?;
-    tell::number(rt, BROKEN)?;
-    tell::say(rt, " broken states refused\n")
+    let refused = refused(rt)?;
+    println!(rt; "{refused} of {} broken states refused", NAMES.len())
 }
 
 fn main(rt: HostRuntime) -> io::Result<()> {

@@ -1,13 +1,12 @@
 -- docs/RULES.md, "Challenges": the lists of challenges received and sent, what an array is read as, and the one that is built of a list.
-use Rattle.std.specs.Prelude.{ℕ, List, [], ◌∷◌, map, Bool, true, false, not, cond, eqb, leb, length, take, drop}
+use Rattle.std.specs.Prelude.{ℕ, List, [], ◌∷◌, map, Bool, not, cond, ◌&&◌, eqb, leb, length, take, drop}
 use Rattle.std.proofs.Math.Option.{Option, none, some}
-use Rattle.lists.specs.Defs.{front, keep, maybe, padded}
+use Rattle.lists.specs.Defs.{front, keep, maybe, nought, padded}
 use Rattle.lists.specs.Held.{Held}
 use Rattle.values.specs.Limits.{max_path_chals_recv, max_path_chals_sent}
 use Rattle.values.specs.Time.{minus}
 use Rattle.values.specs.declared.time.Span.{Span}
 use Rattle.challenges.specs.declared.received.Received.{Received}
-use Rattle.challenges.specs.declared.received.Waiting.{Waiting}
 use Rattle.challenges.specs.declared.sent.Challenge.{Challenge}
 use Rattle.challenges.specs.declared.sent.Sent.{Sent}
 use Rattle.challenges.specs.declared.matches.Spans.{Spans}
@@ -16,6 +15,10 @@ use Rattle.challenges.specs.declared.matches.Spans.{Spans}
 
 abbrev pub zero_challenge : Challenge
 zero_challenge = record { «data» = 0; size = 0; sent = record { us = 0 }; deadline = record { us = 0 } }
+
+-- the challenge is the zero challenge
+abbrev pub is_zero : Challenge → Bool
+is_zero c = nought c.«data» && nought c.size && nought c.sent.us && nought c.deadline.us
 
 abbrev pub span_of : ℕ → Span
 span_of n = record { us = n }
@@ -42,10 +45,6 @@ ReceivedWell q = Held max_path_chals_recv 0 q.items q.count
 
 abbrev pub SentWell : Sent → Type 0
 SentWell s = Held max_path_chals_sent zero_challenge s.items s.count
-
-abbrev pub waiting_of : Option ℕ → Waiting
-waiting_of none = record { «data» = 0; present = false }
-waiting_of (some d) = record { «data» = d; present = true }
 
 -- ---- what happens to the lists
 

@@ -1,9 +1,11 @@
 // What a response asks of the challenges sent: which of them have its data, and what is left.
-ghost use Rattle.std.specs.Prelude.{◌≡◌, []};
+ghost use Rattle.std.specs.Prelude.{◌≡◌, [], ◌∷◌, ◌++◌, ◌<◌, ◌≤◌};
+ghost use Rattle.values.specs.Limits.{max_path_chals_sent};
 ghost use Rattle.challenges.specs.Challenges.{SentWell, last_size, matching, sent_of, spans, spans_of, standing, unmatched};
 
 use crate::sent;
 use crate::sent::Sent;
+use values::limits::MAX_PATH_CHALS_SENT;
 use values::{Moment, Span};
 
 #[repr(C)]
@@ -24,7 +26,7 @@ pub fn no_spans() -> Spans
     ensures { result ≡ spans_of [] }
 {
     Spans {
-        items: [Span { us: 0 }; 16],
+        items: [Span { us: 0 }; MAX_PATH_CHALS_SENT],
         count: 0,
     }
 }
@@ -35,14 +37,10 @@ pub fn sent_unmatched(s: Sent, data: u64) -> Sent
     ensures { result ≡ sent_of (unmatched «data» (standing s)) }
 {
     let mut out = sent::no_sent();
-    let count = s.count;
-    let mut i: usize = 0;
-    while i < count {
-        let x = s.items[i];
+    for x in s.standing() {
         if x.data != data {
-            out = sent::sent_push(out, x);
+            out = sent::sent_push(out, *x);
         }
-        i += 1;
     }
     out
 }
@@ -52,23 +50,14 @@ pub fn sent_matches(s: Sent, data: u64, now: Moment) -> Matches
     requires { SentWell s }
     ensures { result ≡ record { spans = spans_of (spans «data» now.us (standing s)); size = last_size 0 (matching «data» (standing s)) } }
 {
-    let mut out = no_spans();
-    let mut size: u64 = 0;
-    let count = s.count;
-    let mut i: usize = 0;
-    while i < count {
-        let x = s.items[i];
+    let mut spans = no_spans();
+    let mut size = 0;
+    for x in s.standing() {
         if x.data == data {
-            let start = x.sent;
-            let n = out.count;
-            out.items[n] = values::moment_minus(now, start);
-            out.count = n + 1;
+            spans.items[spans.count] = values::moment_minus(now, x.sent);
+            spans.count += 1;
             size = x.size;
         }
-        i += 1;
     }
-    Matches {
-        spans: out,
-        size: size,
-    }
+    Matches { spans, size }
 }

@@ -1,8 +1,8 @@
 // The challenges that the peer sent and that wait for their response: 8 places, of which the first `count` hold data in the order of arrival.
-ghost use Rattle.std.specs.Prelude.{◌≡◌, [], ◌∷◌, ◌++◌, ◌<◌, drop};
-ghost use Rattle.lists.specs.Defs.{front};
+ghost use Rattle.std.specs.Prelude.{◌≡◌, [], ◌∷◌, ◌++◌, ◌<◌, ◌≤◌, drop};
+ghost use Rattle.lists.specs.Defs.{front, optional};
 ghost use Rattle.values.specs.Limits.{max_path_chals_recv};
-ghost use Rattle.challenges.specs.Challenges.{ReceivedWell, received_of, roomed, waiting, waiting_of};
+ghost use Rattle.challenges.specs.Challenges.{ReceivedWell, received_of, roomed, waiting};
 
 use values::limits::MAX_PATH_CHALS_RECV;
 
@@ -13,38 +13,31 @@ pub struct Received {
     pub count: usize,
 }
 
-// The data of a challenge, or none: then it is 0.
-#[repr(C)]
-#[derive(Clone, Copy)]
-pub struct Waiting {
-    pub data: u64,
-    pub present: bool,
+impl Received {
+    // The challenges that wait.
+    pub fn waiting(&self) -> &[u64]
+        requires { self.now.count ≤ max_path_chals_recv }
+        ensures { result.now ≡ waiting self.now }
+    {
+        &self.items[..self.count]
+    }
 }
 
 pub fn no_received() -> Received
     ensures { result ≡ received_of [] }
 {
     Received {
-        items: [0; 8],
+        items: [0; MAX_PATH_CHALS_RECV],
         count: 0,
     }
 }
 
 // The oldest.
-pub fn received_front(q: Received) -> Waiting
-    requires { ReceivedWell q }
-    ensures { result ≡ waiting_of (front (waiting q)) }
+pub fn received_front(q: &Received) -> Option<u64>
+    requires { q.now.count ≤ max_path_chals_recv }
+    ensures { result ≡ optional (front (waiting q.now)) }
 {
-    if q.count == 0 {
-        return Waiting {
-            data: 0,
-            present: false,
-        };
-    }
-    Waiting {
-        data: q.items[0],
-        present: true,
-    }
+    q.waiting().first().copied()
 }
 
 // The oldest is taken out: the later ones move down, and the last place is cleared.
@@ -53,19 +46,10 @@ pub fn received_pop(q: Received) -> Received
     ensures { result ≡ received_of (drop 1 (waiting q)) }
 {
     let mut u = q;
-    if q.count == 0 {
-        return u;
+    if q.count > 0 {
+        values::take_out(&mut u.items, q.count, 0, 0);
+        u.count -= 1;
     }
-    let last = q.count - 1;
-    let mut j: usize = 0;
-    while j < last {
-        let next = j + 1;
-        let x = u.items[next];
-        u.items[j] = x;
-        j = next;
-    }
-    u.items[last] = 0;
-    u.count = last;
     u
 }
 
@@ -75,9 +59,8 @@ fn received_append(q: Received, data: u64) -> Received
     ensures { result ≡ received_of (waiting q ++ («data» ∷ [])) }
 {
     let mut u = q;
-    let count = q.count;
-    u.items[count] = data;
-    u.count = count + 1;
+    u.items[q.count] = data;
+    u.count = q.count + 1;
     u
 }
 
@@ -89,6 +72,5 @@ pub fn received_push(q: Received, data: u64) -> Received
     if q.count < MAX_PATH_CHALS_RECV {
         return received_append(q, data);
     }
-    let u = received_pop(q);
-    received_append(u, data)
+    received_append(received_pop(q), data)
 }

@@ -1,10 +1,11 @@
 // The challenges that were sent on a path and stand without a response: 16 places, of which the first `count` hold them in the order of sending.
-ghost use Rattle.std.specs.Prelude.{◌≡◌, cond, [], ◌∷◌, ◌++◌, ◌<◌, drop};
+ghost use Rattle.std.specs.Prelude.{◌≡◌, cond, [], ◌∷◌, ◌++◌, ◌<◌, ◌≤◌, drop};
 ghost use Rattle.values.specs.Limits.{max_path_chals_sent};
-ghost use Rattle.values.specs.Time.{deadline_of};
-ghost use Rattle.challenges.specs.Challenges.{SentWell, due, sent_of, standing, zero_challenge};
+ghost use Rattle.values.specs.Time.{moved_of};
+ghost use Rattle.challenges.specs.Challenges.{SentWell, due, is_zero, sent_of, standing, zero_challenge};
 
-use values::{Deadline, Moment};
+use values::limits::MAX_PATH_CHALS_SENT;
+use values::{Gather, Moment};
 
 // The data of the frame, the size of the packet, when it was sent, and when it counts as lost.
 #[repr(C)]
@@ -23,6 +24,37 @@ pub struct Sent {
     pub count: usize,
 }
 
+impl Gather for Challenge {
+    ghost is_nothing = { is_zero };
+
+    fn nothing() -> Challenge {
+        no_challenge()
+    }
+
+    fn gather(self, other: Challenge) -> Challenge {
+        Challenge {
+            data: self.data | other.data,
+            size: self.size | other.size,
+            sent: self.sent.gather(other.sent),
+            deadline: self.deadline.gather(other.deadline),
+        }
+    }
+
+    fn is_none(self) -> bool {
+        (self.data == 0) & (self.size == 0) & self.sent.is_none() & self.deadline.is_none()
+    }
+}
+
+impl Sent {
+    // The challenges that stand.
+    pub fn standing(&self) -> &[Challenge]
+        requires { self.now.count ≤ max_path_chals_sent }
+        ensures { result.now ≡ standing self.now }
+    {
+        &self.items[..self.count]
+    }
+}
+
 pub fn no_challenge() -> Challenge
     ensures { result ≡ zero_challenge }
 {
@@ -37,9 +69,8 @@ pub fn no_challenge() -> Challenge
 pub fn no_sent() -> Sent
     ensures { result ≡ sent_of [] }
 {
-    let zero = no_challenge();
     Sent {
-        items: [zero; 16],
+        items: [no_challenge(); MAX_PATH_CHALS_SENT],
         count: 0,
     }
 }
@@ -50,26 +81,17 @@ pub fn sent_push(s: Sent, challenge: Challenge) -> Sent
     ensures { result ≡ sent_of (standing s ++ (challenge ∷ [])) }
 {
     let mut u = s;
-    let count = s.count;
-    u.items[count] = challenge;
-    u.count = count + 1;
+    u.items[s.count] = challenge;
+    u.count = s.count + 1;
     u
 }
 
 // The deadline of the first that stands.
-pub fn sent_front(s: Sent) -> Deadline
-    requires { SentWell s }
-    ensures { result ≡ deadline_of (due (standing s)) }
+pub fn sent_front(s: &Sent) -> Option<Moment>
+    requires { s.now.count ≤ max_path_chals_sent }
+    ensures { result ≡ moved_of (due (standing s.now)) }
 {
-    if s.count == 0 {
-        return Deadline {
-            at: Moment { us: 0 },
-            set: false,
-        };
-    }
-    let first = s.items[0];
-    let at = first.deadline;
-    Deadline { at: at, set: true }
+    s.standing().first().map(|c| c.deadline)
 }
 
 // The first is taken out: the later ones move down, and the last place is cleared.
@@ -78,19 +100,10 @@ fn sent_drop_front(s: Sent) -> Sent
     ensures { result ≡ sent_of (drop 1 (standing s)) }
 {
     let mut u = s;
-    if s.count == 0 {
-        return u;
+    if s.count > 0 {
+        values::take_out(&mut u.items, s.count, 0, no_challenge());
+        u.count -= 1;
     }
-    let last = s.count - 1;
-    let mut j: usize = 0;
-    while j < last {
-        let next = j + 1;
-        let x = u.items[next];
-        u.items[j] = x;
-        j = next;
-    }
-    u.items[last] = no_challenge();
-    u.count = last;
     u
 }
 

@@ -13,27 +13,25 @@ fn address(last: u8, port: u16) -> Address {
         ip: [192, 0, 2, last, 0, 0, 0, 0, 0, 0, 0, 0, 0, 0, 0, 0],
         flow: 0,
         scope: 0,
-        port: port,
+        port,
         kind: 4,
     }
 }
 
-pub fn cable() -> FourTuple {
-    let server = address(1, 443);
-    let laptop = address(20, 50000);
+// The server, and the laptop with this last byte of its address.
+fn pair(last: u8) -> FourTuple {
     FourTuple {
-        local: server,
-        remote: laptop,
+        local: address(1, 443),
+        remote: address(last, 50000),
     }
 }
 
+pub fn cable() -> FourTuple {
+    pair(20)
+}
+
 pub fn wireless() -> FourTuple {
-    let server = address(1, 443);
-    let laptop = address(77, 50000);
-    FourTuple {
-        local: server,
-        remote: laptop,
-    }
+    pair(77)
 }
 
 // An ID of one byte.
@@ -59,7 +57,5 @@ fn no_token() -> Token {
 pub fn ids() -> Ids {
     let a = ids::fresh(4, id(200), 0, no_token());
     let b = ids::set_initial_dcid(a.ids, id(1), no_token(), true, 0);
-    let c = ids::add_dcid(b.ids, id(2), 1, reset(), 0);
-    let s = c.ids;
-    s
+    ids::add_dcid(b.ids, id(2), 1, reset(), 0).ids
 }

@@ -1,20 +1,21 @@
 -- A call that changes the state, as what it leaves: the fields that it may change, put into the state, and the answer.
-use Rattle.std.specs.Prelude.{ℕ, ◌≡◌, [], Bool, true, cond, set, get_or}
+use Rattle.std.specs.Prelude.{ℕ, ◌≡◌, List, [], Bool, cond, set, get_or}
 use Rattle.std.proofs.Common.{ap}
 use Rattle.std.proofs.Math.Option.{Option, none, some}
 use Rattle.values.specs.declared.answers.Done.{Done}
 use Rattle.values.specs.declared.answers.Counted.{Counted}
 use Rattle.values.specs.declared.answers.Numbered.{Numbered}
+use Rattle.values.specs.declared.cid.ConnectionId.{ConnectionId}
 use Rattle.values.specs.Answers.{numbered_at}
-use Rattle.ids_rules.specs.View.{View, Out}
-use Rattle.ids_rules.specs.Steps.{marked}
+use Rattle.ids_rules.specs.View.{refused}
+use Rattle.ids_rules.specs.With.{with_retire_prior_to}
+use Rattle.ids_rules.specs.Steps.{add_scid, issue, marked}
 use Rattle.tables.specs.Table.{zero_item, live, entries, table_of, queue_of, used_of, on_path}
 use Rattle.tables.specs.declared.sequences.Queue.{Queue}
 use Rattle.tables.specs.declared.items.Table.{Table}
-use Rattle.ids_state.specs.Formed.{well_formed}
 use Rattle.ids_state.specs.declared.state.Ids.{Ids}
-use Rattle.ids.specs.Reading.{view, retired_of}
-use Rattle.ids.specs.Puts.{put_issued, put_source_rpt, put_lowered, put_given}
+use Rattle.ids.specs.Reading.{view}
+use Rattle.ids.specs.Puts.{put_issued, put_source_rpt, put_lowered}
 use Rattle.ids.specs.declared.answers.DoneOut.{DoneOut}
 use Rattle.ids.specs.declared.answers.IssuedOut.{IssuedOut}
 use Rattle.ids.specs.declared.answers.FreedOut.{FreedOut}
@@ -62,33 +63,12 @@ freed_in s r = record { ids = put_source_rpt r.scids r.retire_prior_to s; answer
 abbrev pub retired_in : Ids → RetiredParts → RetiredOut
 retired_in s r = record { ids = put_lowered r.dcids r.dcids_to_retire r.largest_peer_retire_prior_to s; answer = r.answer }
 
-pub issued_leaves : (s : Ids) (p : IssuedParts) (r : IssuedOut) → issued_in s p ≡ r → IssuedLeaves (put_issued p.scids p.scids_to_advertise p.next_scid_seq p.retire_prior_to s) p.answer r
-issued_leaves s p r e = record { state = ap (λ (x : IssuedOut). x.ids) e; answer = ap (λ (x : IssuedOut). x.answer) e }
-
-pub freed_leaves : (s : Ids) (p : FreedParts) (r : FreedOut) → freed_in s p ≡ r → FreedLeaves (put_source_rpt p.scids p.retire_prior_to s) p.answer r
-freed_leaves s p r e = record { state = ap (λ (x : FreedOut). x.ids) e; answer = ap (λ (x : FreedOut). x.answer) e }
-
-pub retired_leaves : (s : Ids) (p : RetiredParts) (r : RetiredOut) → retired_in s p ≡ r → RetiredLeaves (put_lowered p.dcids p.dcids_to_retire p.largest_peer_retire_prior_to s) p.answer r
-retired_leaves s p r e = record { state = ap (λ (x : RetiredOut). x.ids) e; answer = ap (λ (x : RetiredOut). x.answer) e }
-
 -- no path was freed, no pair retired
 abbrev pub free_none : ℕ → Table → ℕ → FreedParts
 free_none refusal t rpt = record { scids = t; retire_prior_to = rpt; answer = numbered_at refusal none }
 
 abbrev pub retire_none : ℕ → Table → Queue → ℕ → RetiredParts
 retire_none refusal t q largest = record { dcids = t; dcids_to_retire = q; largest_peer_retire_prior_to = largest; answer = record { refusal = refusal; used = used_of [] } }
-
--- the fields that add_dcid's steps are given are those of a well-formed state: rest has its other fields
-pub record FromState (t : Table) (q : Queue) (largest dcid_limit : ℕ) : Type 0 where
-  pub rest : Ids
-  pub well : well_formed (put_given t q largest dcid_limit rest) ≡ true
-
-abbrev pub state_of : {t : Table} {q : Queue} {largest dcid_limit : ℕ} → FromState t q largest dcid_limit → Ids
-state_of {t} {q} {largest} {dcid_limit} h = put_given t q largest dcid_limit h.rest
-
--- put into any such state, r is what f gives of its view
-abbrev pub Gives : Table → Queue → ℕ → ℕ → RetiredParts → (f : View → Out) → Type 0
-Gives t q largest dcid_limit r f = (h : FromState t q largest dcid_limit) → retired_in (state_of h) r ≡ retired_of (f (view (state_of h)))
 
 -- ---- the marks, on one table or one queue
 
@@ -106,3 +86,13 @@ used_at path t (some i) = table_at 0 (table_of (set (live t) i (on_path path (ge
 -- the sequence is marked; 6 if the queue is full
 abbrev pub marked_at : ℕ → Bool → Queue → (full : Bool) → QueueParts
 marked_at seq on q full = cond full (queue_at 6 q) (queue_at 0 (queue_of (marked seq on (entries q))))
+
+-- ---- whether one source ID more is issued: with own Retire Prior To as it is then, or refused
+
+abbrev pub Raises : Ids → Bool → ℕ → Type 0
+Raises s retire_if_needed rpt = (cid : ConnectionId) (token : Option (List ℕ)) (advertise : Bool) (path : Option ℕ)
+    → add_scid cid token advertise path retire_if_needed (view s) ≡ issue cid token advertise path (view s) (with_retire_prior_to rpt (view s))
+
+abbrev pub Withholds : Ids → Bool → ℕ → Type 0
+Withholds s retire_if_needed n = (cid : ConnectionId) (token : Option (List ℕ)) (advertise : Bool) (path : Option ℕ)
+    → add_scid cid token advertise path retire_if_needed (view s) ≡ refused n (view s)

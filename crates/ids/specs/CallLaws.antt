@@ -1,7 +1,6 @@
 -- The published calls: what was tested chooses between the step and refusal 1.
 use Rattle.std.specs.Prelude.{ℕ, ◌≡◌, Bool, true, not, cond, ◌&&◌, ◌||◌, eqb, length}
 use Rattle.std.proofs.Common.{sym, ap, ap₂, ◌∙◌}
-use Rattle.std.proofs.Math.Bool.{and-true}
 use Rattle.lists.specs.Defs.{empty, keep}
 use Rattle.lists.specs.Bools.{and_both}
 use Rattle.values.specs.Cid.{id_formed}
@@ -22,21 +21,7 @@ module _ (s : Ids) where
   pub chosen : {A : Type 0} (f : Bool) (x y : A) (v : Bool) → (well_formed s && f) ≡ v → cond v x y ≡ checked s f x y
   chosen f x y v e = ap (λ (b : Bool). cond b x y) (sym e)
 
-  module _ (b : Bool) (eb : b ≡ well_formed s) where
-    -- of a call with nothing else to test
-    pub state_test : (v : Bool) → b ≡ v → (well_formed s && true) ≡ v
-    state_test v e = ap (λ (t : Bool). t && true) (sym eb ∙ e) ∙ and-true v
-
-    -- with an ID
-    pub id_test : (cid : ConnectionId) (c : Bool) → c ≡ id_formed cid → (v : Bool) → (b && c) ≡ v → (well_formed s && id_formed cid) ≡ v
-    id_test cid c ec v e = ap₂ ◌&&◌ (sym eb) (sym ec) ∙ e
-
-    -- with an ID, a token and a path
-    pub ids_test : (cid : ConnectionId) (token : Token) (has : Bool) (path : ℕ) (c k : Bool) → c ≡ id_formed cid → k ≡ token_formed_of token
-        → (v : Bool) → (b && (c && k && path_formed_of has path)) ≡ v → (well_formed s && (id_formed cid && token_formed_of token && path_formed_of has path)) ≡ v
-    ids_test cid token has path c k ec ek v e = ap₂ ◌&&◌ (sym eb) (ap₂ (λ (x y : Bool). x && y && path_formed_of has path) (sym ec) (sym ek)) ∙ e
-
-  -- what the last says
+  -- what the test of an ID, a token and a path says
   pub ids_each : (cid : ConnectionId) (token : Token) (has : Bool) (path : ℕ) → (well_formed s && (id_formed cid && token_formed_of token && path_formed_of has path)) ≡ true
       → (well_formed s ≡ true) × (token_formed_of token ≡ true) × (path_formed_of has path ≡ true)
   ids_each cid token has path e =

@@ -1,17 +1,16 @@
 -- add_scid and retire_scid: each way through the definition, on a well-formed state, as the code makes it.
-use Rattle.std.specs.Prelude.{ℕ, ◌+◌, ◌≤◌, ◌<◌, min, ◌≡◌, refl, List, [], ◌∷◌, ◌++◌, map, Bool, true, false, not, cond, ◌&&◌, leb, ltb, length, get_or}
-use Rattle.std.proofs.Common.{sym, ap, ap₂, ◌∙◌, arith, le-leb, ltb-true}
+use Rattle.std.specs.Bool.{then_some}
+use Rattle.std.specs.Prelude.{Ok, ℕ, ◌+◌, ◌≤◌, ◌<◌, min, ◌≡◌, refl, List, [], ◌∷◌, ◌++◌, map, Bool, true, false, not, cond, ◌&&◌, leb, ltb, length, get_or}
+use Rattle.std.proofs.Common.{sym, ap, ap₂, ◌∙◌, arith, eqb-true, le-leb, ltb-true}
 use Rattle.std.proofs.Math.Bool.{and-false}
 use Rattle.std.proofs.Math.Option.{Option, none, some}
 use Rattle.std.proofs.lemmas.Bool.{lt-leb}
 use Rattle.lists.specs.Defs.{maybe, given, any, first, first_with, keep, picked, less, least}
 use Rattle.lists.specs.Bools.{and_both}
 use Rattle.lists.specs.Search.{first_below}
-use Rattle.lists.specs.Held.{length_without}
-use Rattle.values.specs.Limits.{table_slots, queue_slots, max_sequence}
+use Rattle.values.specs.Limits.{queue_slots, max_sequence}
 use Rattle.values.specs.Cid.{same_id}
 use Rattle.values.specs.Token.{token_formed_of, token_view}
-use Rattle.values.specs.declared.token.Token.{Token}
 use Rattle.values.specs.declared.answers.Numbered.{Numbered}
 use Rattle.values.specs.declared.cid.ConnectionId.{ConnectionId}
 use Rattle.ids_rules.specs.Values.{Item, seq_of, has_seq, from}
@@ -19,7 +18,7 @@ use Rattle.ids_rules.specs.View.{View, Out, refused, accepted, Issued, Freed}
 use Rattle.ids_rules.specs.With.{with_scids, with_retire_prior_to}
 use Rattle.ids_rules.specs.Steps.{lowest_from, marked, issued, issue, add_scid, sole, taken, without, retire_scid}
 use Rattle.tables.specs.Table.{zero_item, live, entries, table_of, queue_of}
-use Rattle.tables.specs.Laws.{live_long, live_of}
+use Rattle.tables.specs.Laws.{live_of}
 use Rattle.tables.specs.declared.sequences.Queue.{Queue}
 use Rattle.tables.specs.declared.items.Table.{Table}
 use Rattle.ids_state.specs.Formed.{well_formed}
@@ -38,6 +37,7 @@ use Rattle.tables.specs.Table as T
 use Rattle.ids_state.specs.Formed as F
 use Rattle.lists.specs.Defs as D
 use Rattle.values.specs.Answers.{numbered_at}
+use Rattle.values.specs.Results.{numbered_of}
 
 -- ---- the lowest sequence
 
@@ -132,12 +132,12 @@ module _ (s : Ids) (w : well_formed s ≡ true) where
               ∙ ap (λ (y : Ids). issued_at 0 s.next_scid_seq (put_issued (table_of (map item_of ((view s).scids ++ (entry ∷ [])))) (queue_of (marked s.next_scid_seq advertise (entries s.scids_to_advertise))) (s.next_scid_seq + 1) rpt y)) (sym (view_is s w))
               ∙ sym (ap issued_of (issue_is false false false p (lt-leb _ _ q) u))
 
-  module _ (cid : ConnectionId) (token : Token) (advertise has : Bool) (path : ℕ) (retire_if_needed : Bool) where
+  module _ (cid : ConnectionId) (token : Option (List ℕ)) (advertise : Bool) (path : Option ℕ) (retire_if_needed : Bool) where
     abbrev issue_with : View → Out
-    issue_with v = issue cid (token_view token) advertise (given has path) (view s) v
+    issue_with v = issue cid token advertise path (view s) v
 
     abbrev pub adds : Out
-    adds = add_scid cid (token_view token) advertise (given has path) retire_if_needed (view s)
+    adds = add_scid cid token advertise path retire_if_needed (view s)
 
     abbrev add_at : Bool → Bool → Bool → Bool → Option ℕ → Out
     add_at p q r t o = cond p (refused 2 (view s)) (cond q (refused 7 (view s)) (cond r (issue_with (view s)) (cond t (refused 3 (view s)) (maybe o (refused 2 (view s)) (λ m. issue_with (with_retire_prior_to (m + 1) (view s)))))))
@@ -168,9 +168,6 @@ module _ (s : Ids) (w : well_formed s ≡ true) (seq i : ℕ) (place : first_wit
 
   pub place_below : i < s.scids.count
   place_below = place_in s.scids (source_well s w) (T.has_seq seq) i place
-
-  pub rest_few : length (D.without i (live s.scids)) < table_slots
-  rest_few = omega (arith, length_without i (live s.scids) (first_below (T.has_seq seq) (live s.scids) i place), live_long s.scids (source_well s w), (source_well s w).few)
 
   abbrev taken_at : Bool → Option ℕ → Out
   taken_at b o = cond b (refused 4 out) (maybe o (refused 2 out) (λ m. accepted (Freed (item_view y).path) (with_retire_prior_to m out)))
@@ -233,3 +230,8 @@ module _ (s : Ids) (w : well_formed s ≡ true) (seq : ℕ) (packet : Connection
       scid_retire_0 k =
           on false (some (item_view (get_or (live s.scids) i zero_item))) (sole_is true there ∙ ap (λ (b : Bool). b && true) (lt-leb _ _ k))
           (first_at item_view (has_seq seq) (T.has_seq seq) (λ x. refl) zero_item (live s.scids) i place)
+
+-- the path of an item of its form, as an answer
+pub numbered_given : (has : Bool) (path : ℕ) → path_formed_of has path ≡ true → numbered_of (Ok (then_some has path)) ≡ record { refusal = 0; present = has; number = path }
+numbered_given true path e = refl
+numbered_given false path e = ap {B = Numbered} (λ (n : ℕ). record { refusal = 0; present = false; number = n }) (sym (eqb-true path 0 e))

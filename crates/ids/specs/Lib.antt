@@ -1,4 +1,5 @@
 pub mod Reading
+pub mod Results
 pub mod ReadingLaws
 pub mod WellLaws
 pub mod Carry

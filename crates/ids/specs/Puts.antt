@@ -43,8 +43,3 @@ put_issued t q n r s = record { scids = t; dcids = s.dcids; scid_capacity = s.sc
 --| put_source_rpt (t : Table) (r : ℕ) (s : Ids) { scids = t; retire_prior_to = r }
 abbrev pub put_source_rpt : Table → ℕ → Ids → Ids
 put_source_rpt t r s = record { scids = t; dcids = s.dcids; scid_capacity = s.scid_capacity; dcid_limit = s.dcid_limit; scid_limit = s.scid_limit; zero_length_scid = s.zero_length_scid; zero_length_dcid = s.zero_length_dcid; next_scid_seq = s.next_scid_seq; retire_prior_to = r; largest_peer_retire_prior_to = s.largest_peer_retire_prior_to; scids_to_advertise = s.scids_to_advertise; dcids_to_retire = s.dcids_to_retire }
-
--- the fields that a new destination ID is held against
---| put_given (t : Table) (q : Queue) (b d : ℕ) (s : Ids) { dcids = t; dcids_to_retire = q; largest_peer_retire_prior_to = b; dcid_limit = d }
-abbrev pub put_given : Table → Queue → ℕ → ℕ → Ids → Ids
-put_given t q b d s = record { scids = s.scids; dcids = t; scid_capacity = s.scid_capacity; dcid_limit = d; scid_limit = s.scid_limit; zero_length_scid = s.zero_length_scid; zero_length_dcid = s.zero_length_dcid; next_scid_seq = s.next_scid_seq; retire_prior_to = s.retire_prior_to; largest_peer_retire_prior_to = b; scids_to_advertise = s.scids_to_advertise; dcids_to_retire = q }

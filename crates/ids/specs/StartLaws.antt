@@ -1,11 +1,15 @@
 -- The first state, the first destination ID and the source limit, as the code makes them.
-use Rattle.std.specs.Prelude.{ℕ, min, max, ◌≡◌, refl, [], ◌∷◌, map, Bool, true, false, cond, ◌&&◌}
-use Rattle.std.proofs.Common.{sym, ap, ap₂, ◌∙◌}
+use Rattle.std.specs.Prelude.{Ok, Err, ⊤, ℕ, min, max, ◌≡◌, refl, [], ◌∷◌, map, Bool, true, false, cond, ◌&&◌}
+use Rattle.std.specs.Bool.{then_some}
+use Rattle.std.proofs.Common.{sym, ap, ap₂, ◌∙◌, arith}
 use Rattle.lists.specs.Defs.{given}
 use Rattle.lists.specs.Bools.{and_both}
 use Rattle.values.specs.Limits.{max_cids_count, min_scid_limit, capacity_of}
 use Rattle.values.specs.Cid.{empty_id}
 use Rattle.values.specs.Token.{token_formed_of, token_view}
+use Rattle.values.specs.Refusals.{form_of}
+use Rattle.values.specs.declared.refusals.Refusal.{Refusal}
+use Rattle.values.specs.declared.refusals.Refusal.TheVariants.{Malformed}
 use Rattle.values.specs.declared.token.Token.{Token}
 use Rattle.values.specs.declared.cid.ConnectionId.{ConnectionId}
 use Rattle.ids_rules.specs.View.{Out, refused, accepted, Nothing}
@@ -15,13 +19,20 @@ use Rattle.tables.specs.declared.items.Table.{Table}
 use Rattle.ids_state.specs.Formed.{well_formed}
 use Rattle.ids_state.specs.declared.state.Ids.{Ids}
 use Rattle.ids.specs.Reading.{item_view, view, item_of, ids_of, path_formed_of, done_at, done_of, fresh_ids}
-use Rattle.ids.specs.ReadingLaws.{item_is, view_is}
+use Rattle.ids.specs.ReadingLaws.{item_is, path_back, view_is}
+use Rattle.ids.specs.Results.{item_with}
 use Rattle.ids.specs.Puts.{put_initial, put_limit}
 use Rattle.tables.specs.declared.items.Item as I
 
 -- one item of its form in a table
 pub one_item : (x : I.Item) (one : Table) → token_formed_of x.token ≡ true → path_formed_of x.has_path x.path ≡ true → one ≡ table_of (x ∷ []) → one ≡ table_of (map item_of (item_view x ∷ []))
 one_item x one t p e = e ∙ ap (λ (y : I.Item). table_of (y ∷ [])) (sym (item_is x t p))
+
+-- an item that is given its path with a flag
+pub item_given : (seq : ℕ) (cid : ConnectionId) (token : Token) (has : Bool) (path : ℕ) → path_formed_of has path ≡ true
+    → item_with seq cid token (then_some has path) ≡ record { seq = seq; path = path; cid = cid; token = token; has_path = has }
+item_given seq cid token true path p = refl
+item_given seq cid token false path p = λ i. record { seq = seq; path = path_back false path p i; cid = cid; token = token; has_path = false }
 
 pub initial_0 : (s : Ids) → well_formed s ≡ true → (cid : ConnectionId) (token : Token) (has : Bool) (path : ℕ) (t : Table)
     → t ≡ table_of (map item_of (record { cid = cid; seq = 0; token = token_view token; path = given has path } ∷ []))
@@ -50,3 +61,13 @@ fresh_1 dcid_limit cid path token e s q = ap (done_at 1) q ∙ sym (ap done_of (
     go : (t f : Bool) → (t && f) ≡ false → fresh_at t f (accepted Nothing (fresh dcid_limit cid path (token_view token))) ≡ refused 1 zero_view
     go true f r = ap (λ (b : Bool). cond b (accepted Nothing (fresh dcid_limit cid path (token_view token))) (refused 1 zero_view)) r
     go false f r = refl
+
+-- ---- what a test of forms answered
+
+pub form_accepts : (b : Bool) (u : ⊤) → form_of b ≡ Ok u → b ≡ true
+form_accepts true u e = refl
+form_accepts false u e = let z : ◌≡◌ {A = ℕ} 0 1 = cc in absurd (omega arith)
+
+pub form_refuses : (b : Bool) (r : Refusal) → form_of b ≡ Err r → (b ≡ false) × (r ≡ Malformed)
+form_refuses true r e = let z : ◌≡◌ {A = ℕ} 0 1 = cc in absurd (omega arith)
+form_refuses false r e = let q : Malformed ≡ r = cc in (refl, sym q)

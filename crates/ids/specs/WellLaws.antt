@@ -13,8 +13,8 @@ use Rattle.ids_rules.specs.Values.{Item, clashes, item_formed_of}
 use Rattle.ids_rules.specs.View.{View, refused}
 use Rattle.ids_rules.specs.Well.{rising_within, distinct, limits, source, destination, queues, well}
 use Rattle.ids_rules.specs.Calls.{Call, call_formed, step, apply}
-use Rattle.tables.specs.Table.{zero_item, live, table_of}
-use Rattle.ids_state.specs.Formed.{is_zero, apart, sources_formed, destinations_formed, bounded, well_formed}
+use Rattle.tables.specs.Table.{is_zero, zero_item, live, table_of}
+use Rattle.ids_state.specs.Formed.{apart, sources_formed, destinations_formed, bounded, well_formed}
 use Rattle.ids_state.proofs.Laws.{Facts, facts}
 use Rattle.ids_state.specs.declared.state.Ids.{Ids}
 use Rattle.ids.specs.Reading.{item_view, view, token_of, path_of, item_of, ids_of, path_formed_of}

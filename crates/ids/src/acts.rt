@@ -1,6 +1,7 @@
 // The calls that change the state, as what they may change of it and the answer: a lent state is changed in place by that. Each tests
 // the state and its arguments first: what is not of its form is refused with 1, and the fields come back as they were. docs/RULES.md has the steps after
 // that.
+// `has_path` and `path` are an Option as C gives it; source and destination have calls of their own, as C names them.
 ghost use Rattle.std.specs.Prelude.{true, ◌&&◌};
 ghost use Rattle.lists.specs.Defs.{given};
 ghost use Rattle.values.specs.Cid.{id_formed};
@@ -13,9 +14,9 @@ ghost use Rattle.ids.specs.Acts.{FreedLeaves, IssuedLeaves, Leaves, RetiredLeave
 use crate::answers::{
     FreedParts, InitialParts, IssuedParts, LimitParts, QueueParts, RetiredParts, TableParts,
 };
-use crate::{adds, issues, marks, starts};
+use crate::{adds, forms, issues, marks, starts};
 use ids_state::Ids;
-use values::refusals::{ACCEPTED, MALFORMED};
+use values::limits::{MAX_CIDS_COUNT, MIN_SCID_LIMIT};
 use values::{ConnectionId, Done, ResetToken, Token};
 
 // The destination table holds the ID alone, with sequence 0.
@@ -28,23 +29,17 @@ pub fn set_initial_dcid_at(
 ) -> InitialParts
     ensures { Leaves (put_initial result.dcids result.zero_length_dcid s) result.answer (done_call s (id_formed cid && token_formed_of token && path_formed_of has_path path) (C.SetInitialDcid cid (token_view token) (given has_path path))) }
 {
-    let f = ids_state::formed(s);
-    let c = values::cid_formed(cid);
-    let k = values::token_formed(token);
-    let args = c & k & (has_path | (path == 0));
-    if f & args {
-        let t = starts::only(cid, token, has_path, path);
-        return InitialParts {
-            dcids: t,
+    match forms::checked(&s, forms::of_id(cid, token, has_path, path)) {
+        Ok(_) => InitialParts {
+            dcids: starts::only(cid, token, has_path.then_some(path)),
             zero_length_dcid: cid.len == 0,
-            answer: Done { refusal: ACCEPTED },
-        };
-    }
-    let t = s.dcids;
-    InitialParts {
-        dcids: t,
-        zero_length_dcid: s.zero_length_dcid,
-        answer: Done { refusal: MALFORMED },
+            answer: Done::from(Ok(())),
+        },
+        Err(refusal) => InitialParts {
+            dcids: s.dcids,
+            zero_length_dcid: s.zero_length_dcid,
+            answer: Done::from(Err(refusal)),
+        },
     }
 }
 
@@ -52,20 +47,21 @@ pub fn set_initial_dcid_at(
 pub fn set_scid_limit_at(s: Ids, n: u64) -> LimitParts
     ensures { Leaves (put_limit result.scid_limit result.scid_capacity s) result.answer (done_call s true (C.SetScidLimit n)) }
 {
-    if ids_state::formed(s) {
-        let limit = starts::clamped(n);
-        let wide = starts::capacity_for(limit) as usize;
-        let capacity = starts::larger(s.scid_capacity, wide);
-        return LimitParts {
-            scid_limit: limit,
-            scid_capacity: capacity,
-            answer: Done { refusal: ACCEPTED },
-        };
-    }
-    LimitParts {
-        scid_limit: s.scid_limit,
-        scid_capacity: s.scid_capacity,
-        answer: Done { refusal: MALFORMED },
+    match ids_state::checked(&s) {
+        Ok(_) => {
+            let scid_limit = n.clamp(MIN_SCID_LIMIT, MAX_CIDS_COUNT);
+            let capacity = starts::capacity_for(scid_limit) as usize;
+            LimitParts {
+                scid_limit,
+                scid_capacity: s.scid_capacity.max(capacity),
+                answer: Done::from(Ok(())),
+            }
+        }
+        Err(refusal) => LimitParts {
+            scid_limit: s.scid_limit,
+            scid_capacity: s.scid_capacity,
+            answer: Done::from(Err(refusal)),
+        },
     }
 }
 
@@ -73,11 +69,12 @@ pub fn set_scid_limit_at(s: Ids, n: u64) -> LimitParts
 pub fn mark_scid_used_at(s: Ids, seq: u64, path: u64) -> TableParts
     ensures { Leaves (put_source result.table s) result.answer (done_call s true (C.MarkScidUsed seq path)) }
 {
-    let t = s.scids;
-    if ids_state::formed(s) {
-        marks::used_step(t, seq, path)
-    } else {
-        marks::table_done(t, MALFORMED)
+    match ids_state::checked(&s) {
+        Ok(_) => marks::used_step(s.scids, seq, path),
+        Err(refusal) => TableParts {
+            table: s.scids,
+            answer: Done::from(Err(refusal)),
+        },
     }
 }
 
@@ -85,11 +82,12 @@ pub fn mark_scid_used_at(s: Ids, seq: u64, path: u64) -> TableParts
 pub fn mark_dcid_used_at(s: Ids, seq: u64, path: u64) -> TableParts
     ensures { Leaves (put_destination result.table s) result.answer (done_call s true (C.MarkDcidUsed seq path)) }
 {
-    let t = s.dcids;
-    if ids_state::formed(s) {
-        marks::used_step(t, seq, path)
-    } else {
-        marks::table_done(t, MALFORMED)
+    match ids_state::checked(&s) {
+        Ok(_) => marks::used_step(s.dcids, seq, path),
+        Err(refusal) => TableParts {
+            table: s.dcids,
+            answer: Done::from(Err(refusal)),
+        },
     }
 }
 
@@ -105,14 +103,12 @@ pub fn add_scid_at(
 ) -> IssuedParts
     ensures { IssuedLeaves (put_issued result.scids result.scids_to_advertise result.next_scid_seq result.retire_prior_to s) result.answer (issued_call s (id_formed cid && token_formed_of token && path_formed_of has_path path) (C.AddScid cid (token_view token) advertise (given has_path path) retire_if_needed)) }
 {
-    let f = ids_state::formed(s);
-    let c = values::cid_formed(cid);
-    let k = values::token_formed(token);
-    let args = c & k & (has_path | (path == 0));
-    if f & args {
-        issues::add_scid_step(s, cid, token, advertise, has_path, path, retire_if_needed)
-    } else {
-        issues::none_issued(s, s.retire_prior_to, MALFORMED)
+    match forms::checked(&s, forms::of_id(cid, token, has_path, path)) {
+        Ok(f) => {
+            let path = has_path.then_some(path);
+            issues::add_scid_step(f, cid, token, advertise, path, retire_if_needed)
+        }
+        Err(refusal) => issues::none_issued(&s, s.retire_prior_to, refusal),
     }
 }
 
@@ -127,39 +123,32 @@ pub fn add_dcid_at(
 ) -> RetiredParts
     ensures { RetiredLeaves (put_lowered result.dcids result.dcids_to_retire result.largest_peer_retire_prior_to s) result.answer (retired_call s (id_formed cid) (C.AddDcid cid seq token.bytes retire_prior_to)) }
 {
-    let bytes = token.bytes;
-    let f = ids_state::formed(s);
-    let c = values::cid_formed(cid);
-    if f & c {
-        return adds::add_dcid_step(s, cid, seq, bytes, retire_prior_to);
+    match forms::checked(&s, values::cid_formed(cid)) {
+        Ok(f) => adds::add_dcid_step(f, cid, seq, token, retire_prior_to),
+        Err(refusal) => adds::unchanged(&s, Err(refusal)),
     }
-    let t = s.dcids;
-    let q = s.dcids_to_retire;
-    adds::no_pairs(t, q, s.largest_peer_retire_prior_to, MALFORMED)
 }
 
 // A RETIRE_CONNECTION_ID frame: the answer is the path that used the ID.
 pub fn retire_scid_at(s: Ids, seq: u64, packet: ConnectionId) -> FreedParts
     ensures { FreedLeaves (put_source_rpt result.scids result.retire_prior_to s) result.answer (freed_call s (id_formed packet) (C.RetireScid seq packet)) }
 {
-    let f = ids_state::formed(s);
-    let c = values::cid_formed(packet);
-    if f & c {
-        return issues::retire_scid_step(s, seq, packet);
+    match forms::checked(&s, values::cid_formed(packet)) {
+        Ok(f) => issues::retire_scid_step(f, seq, packet),
+        Err(refusal) => issues::none_freed(s.scids, s.retire_prior_to, refusal),
     }
-    let t = s.scids;
-    issues::none_freed(t, s.retire_prior_to, MALFORMED)
 }
 
 // The source sequence is to be announced, or no longer.
 pub fn mark_scid_to_advertise_at(s: Ids, seq: u64, on: bool) -> QueueParts
     ensures { Leaves (put_advertise result.queue s) result.answer (done_call s true (C.MarkScidToAdvertise seq on)) }
 {
-    let q = s.scids_to_advertise;
-    if ids_state::formed(s) {
-        marks::queue_step(q, seq, on)
-    } else {
-        marks::queue_done(q, MALFORMED)
+    match ids_state::checked(&s) {
+        Ok(_) => marks::queue_step(s.scids_to_advertise, seq, on),
+        Err(refusal) => QueueParts {
+            queue: s.scids_to_advertise,
+            answer: Done::from(Err(refusal)),
+        },
     }
 }
 
@@ -167,10 +156,11 @@ pub fn mark_scid_to_advertise_at(s: Ids, seq: u64, on: bool) -> QueueParts
 pub fn mark_dcid_to_retire_at(s: Ids, seq: u64, on: bool) -> QueueParts
     ensures { Leaves (put_retire result.queue s) result.answer (done_call s true (C.MarkDcidToRetire seq on)) }
 {
-    let q = s.dcids_to_retire;
-    if ids_state::formed(s) {
-        marks::queue_step(q, seq, on)
-    } else {
-        marks::queue_done(q, MALFORMED)
+    match ids_state::checked(&s) {
+        Ok(_) => marks::queue_step(s.dcids_to_retire, seq, on),
+        Err(refusal) => QueueParts {
+            queue: s.dcids_to_retire,
+            answer: Done::from(Err(refusal)),
+        },
     }
 }

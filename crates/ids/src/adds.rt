@@ -1,163 +1,158 @@
 // add_dcid, from its last step to its first: a NEW_CONNECTION_ID frame (RFC 9000, 19.15) brings a destination ID.
 ghost use Rattle.std.specs.Prelude.{◌≡◌, [], true};
 ghost use Rattle.values.specs.Cid.{id_formed};
-ghost use Rattle.tables.specs.Table.{used_of};
-ghost use Rattle.ids_state.specs.Formed.{item_formed_of, well_formed};
+ghost use Rattle.values.specs.Results.{refusal_of};
+ghost use Rattle.ids_state.specs.Formed.{item_formed_of};
 ghost use Rattle.ids_rules.specs.Steps as S;
-ghost use Rattle.ids.specs.Reading.{item_view, retired_of, view};
-ghost use Rattle.ids.specs.Acts.{Gives, FromState, retired_in, retire_none};
+ghost use Rattle.ids.specs.Reading.{item_view, retired_at, retired_of, view};
+ghost use Rattle.ids.specs.Acts.{retire_none, retired_in};
 
 use crate::answers::{RetiredAnswer, RetiredParts};
 use crate::starts;
-use ids_state::Ids;
-use tables::{Item, Queue, Table};
+use ids_state::{FormedIds, Ids};
+use tables::{Clash, Item, Queue, Table};
 use values::limits::{QUEUE_SLOTS, RETIRE_FACTOR};
-use values::refusals::{ACCEPTED, CONNECTION_ID_LIMIT_ERROR, NO_SLOT, PROTOCOL_VIOLATION};
-use values::{ConnectionId, Token};
+use values::{ConnectionId, Refusal, ResetToken, Token};
 
-fn none_retired(n: u8) -> RetiredAnswer
-    ensures { result ≡ record { refusal = n; used = used_of [] } }
+fn no_pairs(
+    dcids: Table,
+    dcids_to_retire: Queue,
+    largest_peer_retire_prior_to: u64,
+    r: Result<(), Refusal>,
+) -> RetiredParts
+    ensures { result ≡ retire_none (refusal_of r) dcids dcids_to_retire largest_peer_retire_prior_to }
 {
-    let none = tables::no_pairs();
-    RetiredAnswer {
-        refusal: n,
-        used: none,
+    RetiredParts {
+        dcids,
+        dcids_to_retire,
+        largest_peer_retire_prior_to,
+        answer: RetiredAnswer::from(r.map(|_| tables::no_pairs())),
     }
 }
 
-pub fn no_pairs(d: Table, q: Queue, largest: u64, n: u8) -> RetiredParts
-    ensures { result ≡ retire_none n d q largest }
+// Nothing is changed.
+pub fn unchanged(s: &Ids, r: Result<(), Refusal>) -> RetiredParts
+    ensures { retired_in s.now result ≡ retired_at (refusal_of r) [] s.now }
 {
-    let none = none_retired(n);
-    RetiredParts {
-        dcids: d,
-        dcids_to_retire: q,
-        largest_peer_retire_prior_to: largest,
-        answer: none,
-    }
+    no_pairs(
+        s.dcids,
+        s.dcids_to_retire,
+        s.largest_peer_retire_prior_to,
+        r,
+    )
 }
 
 // A sequence below the largest Retire Prior To, and not queued yet, is queued at once.
-fn late_step(t: Table, q: Queue, largest: u64, dcid_limit: u64, seq: u64) -> RetiredParts
-    requires { FromState t q largest dcid_limit }
-    ensures { Gives t q largest dcid_limit result (S.queue_late seq) }
+fn late_step(f: FormedIds<'_>, seq: u64) -> RetiredParts
+    ensures { retired_in f.entry.ids.now result ≡ retired_of (S.queue_late seq (view f.entry.ids.now)) }
 {
-    if QUEUE_SLOTS <= q.count {
-        return no_pairs(t, q, largest, NO_SLOT);
+    let s = f.ids;
+    if QUEUE_SLOTS <= s.dcids_to_retire.count {
+        return unchanged(s, Err(Refusal::NoSlot));
     }
-    let p = tables::queue_push(q, seq);
-    let most = RETIRE_FACTOR * dcid_limit;
-    let n = p.count as u64;
+    let queued = tables::queue_push(s.dcids_to_retire, seq);
+    let largest = s.largest_peer_retire_prior_to;
     // 5.1.2: more IDs in need of retirement than are tracked may be an error. Here above 4 x the limit.
-    if most < n {
-        return no_pairs(t, p, largest, PROTOCOL_VIOLATION);
+    if RETIRE_FACTOR * s.dcid_limit < queued.count as u64 {
+        return no_pairs(s.dcids, queued, largest, Err(Refusal::ProtocolViolation));
     }
-    no_pairs(t, p, largest, ACCEPTED)
+    no_pairs(s.dcids, queued, largest, Ok(()))
 }
 
-fn append_step(t: Table, q: Queue, largest: u64, dcid_limit: u64, x: Item) -> RetiredParts
-    requires { FromState t q largest dcid_limit × (item_formed_of x ≡ true) }
-    ensures { Gives t q largest dcid_limit result (S.append (item_view x) []) }
+fn append_step(f: FormedIds<'_>, x: Item) -> RetiredParts
+    requires { item_formed_of x ≡ true }
+    ensures { retired_in f.entry.ids.now result ≡ retired_of (S.append (item_view x) [] (view f.entry.ids.now)) }
 {
-    let most = starts::capacity_for(dcid_limit);
-    let n = t.count as u64;
+    let s = f.ids;
     // 5.1.1: more active IDs than the limit is an error. Here the table holds 2 x limit - 1.
-    if most <= n {
-        return no_pairs(t, q, largest, CONNECTION_ID_LIMIT_ERROR);
+    if starts::capacity_for(s.dcid_limit) <= s.dcids.count as u64 {
+        return unchanged(s, Err(Refusal::ConnectionIdLimitError));
     }
-    let d = tables::append(t, x);
-    no_pairs(d, q, largest, ACCEPTED)
+    no_pairs(
+        tables::append(s.dcids, x),
+        s.dcids_to_retire,
+        s.largest_peer_retire_prior_to,
+        Ok(()),
+    )
 }
 
 // A Retire Prior To above the largest: 6 is decided before anything moves.
-fn raise_step(t: Table, q: Queue, largest: u64, dcid_limit: u64, x: Item, b: u64) -> RetiredParts
-    requires { FromState t q largest dcid_limit × (item_formed_of x ≡ true) }
-    ensures { Gives t q largest dcid_limit result (S.raise (item_view x) b) }
+fn raise_step(f: FormedIds<'_>, x: Item, b: u64) -> RetiredParts
+    requires { item_formed_of x ≡ true }
+    ensures { retired_in f.entry.ids.now result ≡ retired_of (S.raise (item_view x) b (view f.entry.ids.now)) }
 {
+    let s = f.ids;
     // 19.15, 5.1.2: lower sequences are retired before the new ID is added.
-    let kept = tables::keep_from(t, b);
-    let lower = t.count - kept.count;
-    let total = q.count + lower;
-    if QUEUE_SLOTS < total {
-        return no_pairs(t, q, largest, NO_SLOT);
+    let kept = tables::keep_from(s.dcids, b);
+    let lower = s.dcids.count - kept.count;
+    if QUEUE_SLOTS < s.dcids_to_retire.count + lower {
+        return unchanged(s, Err(Refusal::NoSlot));
     }
-    let moved = tables::queue_lower(t, b, q);
-    let most = RETIRE_FACTOR * dcid_limit;
-    let n = moved.count as u64;
+    let moved = tables::queue_lower(s.dcids.live(), b, s.dcids_to_retire);
     // 5.1.2, as above.
-    if most < n {
-        return no_pairs(kept, moved, b, PROTOCOL_VIOLATION);
+    if RETIRE_FACTOR * s.dcid_limit < moved.count as u64 {
+        return no_pairs(kept, moved, b, Err(Refusal::ProtocolViolation));
     }
-    let room = starts::capacity_for(dcid_limit);
-    let k = kept.count as u64;
     // 5.1.1, after retiring.
-    if room <= k {
-        return no_pairs(kept, moved, b, CONNECTION_ID_LIMIT_ERROR);
+    if starts::capacity_for(s.dcid_limit) <= kept.count as u64 {
+        return no_pairs(kept, moved, b, Err(Refusal::ConnectionIdLimitError));
     }
-    let used = tables::used_lower(t, b);
-    let d = tables::append(kept, x);
     RetiredParts {
-        dcids: d,
+        dcids: tables::append(kept, x),
         dcids_to_retire: moved,
         largest_peer_retire_prior_to: b,
-        answer: RetiredAnswer {
-            refusal: ACCEPTED,
-            used: used,
-        },
+        answer: RetiredAnswer::from(Ok(tables::used_lower(s.dcids.live(), b))),
     }
 }
 
-fn new_step(t: Table, q: Queue, largest: u64, dcid_limit: u64, x: Item, b: u64) -> RetiredParts
-    requires { FromState t q largest dcid_limit × (item_formed_of x ≡ true) }
-    ensures { Gives t q largest dcid_limit result (S.add_new (item_view x) b) }
+fn new_step(f: FormedIds<'_>, x: Item, b: u64) -> RetiredParts
+    requires { item_formed_of x ≡ true }
+    ensures { retired_in f.entry.ids.now result ≡ retired_of (S.add_new (item_view x) b (view f.entry.ids.now)) }
 {
+    let s = f.ids;
     // 19.15: a Retire Prior To above the sequence is an error.
     if x.seq < b {
-        return no_pairs(t, q, largest, PROTOCOL_VIOLATION);
+        return unchanged(s, Err(Refusal::ProtocolViolation));
     }
     // 19.15: a sequence below an earlier Retire Prior To is retired at once, unless it waits for that already: then nothing happens [10].
-    let seq = x.seq;
-    if seq < largest {
-        let waits = tables::queue_has(q, seq);
-        if waits {
-            return no_pairs(t, q, largest, ACCEPTED);
+    if x.seq < s.largest_peer_retire_prior_to {
+        if tables::queue_has(&s.dcids_to_retire, x.seq) {
+            return unchanged(s, Ok(()));
         }
-        return late_step(t, q, largest, dcid_limit, seq);
+        return late_step(f, x.seq);
     }
     // 19.15: a Retire Prior To that doesn't raise the largest is ignored.
-    if largest < b {
-        return raise_step(t, q, largest, dcid_limit, x, b);
+    if s.largest_peer_retire_prior_to < b {
+        return raise_step(f, x, b);
     }
-    append_step(t, q, largest, dcid_limit, x)
+    append_step(f, x)
 }
 
-pub fn add_dcid_step(s: Ids, cid: ConnectionId, seq: u64, token: [u8; 16], b: u64) -> RetiredParts
-    requires { (well_formed s ≡ true) × (id_formed cid ≡ true) }
-    ensures { retired_in s result ≡ retired_of (S.add_dcid cid seq token b (view s)) }
+pub fn add_dcid_step(
+    f: FormedIds<'_>,
+    cid: ConnectionId,
+    seq: u64,
+    token: ResetToken,
+    b: u64,
+) -> RetiredParts
+    requires { id_formed cid ≡ true }
+    ensures { retired_in f.entry.ids.now result ≡ retired_of (S.add_dcid cid seq token.bytes b (view f.entry.ids.now)) }
 {
-    let t = s.dcids;
-    let q = s.dcids_to_retire;
+    let s = f.ids;
     // 19.15: to an endpoint that sends with a zero-length ID the frame is an error.
     if s.zero_length_dcid {
-        return no_pairs(t, q, s.largest_peer_retire_prior_to, PROTOCOL_VIOLATION);
+        return unchanged(s, Err(Refusal::ProtocolViolation));
     }
-    let x = Item {
-        seq: seq,
-        path: 0,
-        cid: cid,
-        token: Token {
-            bytes: token,
-            present: true,
-        },
-        has_path: false,
+    let bytes = token.bytes;
+    let key = Token {
+        bytes,
+        present: true,
     };
+    let x = starts::item(seq, cid, key, None);
     // 19.15: the same frame again is no error; an ID or a sequence that comes with others is.
-    let j = tables::clash(t, x);
-    if j == 1 {
-        return no_pairs(t, q, s.largest_peer_retire_prior_to, ACCEPTED);
+    match tables::first_clash(s.dcids.live(), &x) {
+        Some(Clash::Repeats) => unchanged(s, Ok(())),
+        Some(Clash::Differs) => unchanged(s, Err(Refusal::ProtocolViolation)),
+        None => new_step(f, x, b),
     }
-    if j != 0 {
-        return no_pairs(t, q, s.largest_peer_retire_prior_to, PROTOCOL_VIOLATION);
-    }
-    new_step(t, q, s.largest_peer_retire_prior_to, s.dcid_limit, x, b)
 }

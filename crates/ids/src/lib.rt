@@ -7,6 +7,7 @@ mod acts;
 mod adds;
 mod answers;
 mod calls;
+mod forms;
 mod issues;
 mod marks;
 mod reads;

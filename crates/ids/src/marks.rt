@@ -4,24 +4,12 @@ ghost use Rattle.lists.specs.Defs.{first_with};
 ghost use Rattle.values.specs.Limits.{queue_slots};
 ghost use Rattle.tables.specs.Table.{QueueWell, TableWell, entries, has_seq, live, queue_of};
 ghost use Rattle.ids_rules.specs.Steps as S;
-ghost use Rattle.ids.specs.Reading.{done_at};
-ghost use Rattle.ids.specs.Acts.{marked_at, queue_at, table_at, used_at};
+ghost use Rattle.ids.specs.Acts.{marked_at, used_at};
 
-use crate::answers::{DoneOut, QueueParts, TableParts};
-use ids_state::Ids;
+use crate::answers::{QueueParts, TableParts};
 use tables::{Queue, Table};
-use values::Done;
 use values::limits::QUEUE_SLOTS;
-use values::refusals::{ACCEPTED, INTERNAL_ERROR, NO_SLOT};
-
-pub fn done(s: Ids, n: u8) -> DoneOut
-    ensures { result ≡ done_at n s }
-{
-    DoneOut {
-        ids: s,
-        answer: Done { refusal: n },
-    }
-}
+use values::{Done, Refusal};
 
 // On: the sequence goes to the end, where there is room. Off: every equal entry is taken out.
 pub fn marked(q: Queue, seq: u64, on: bool) -> Queue
@@ -35,35 +23,21 @@ pub fn marked(q: Queue, seq: u64, on: bool) -> Queue
     }
 }
 
-pub fn table_done(t: Table, n: u8) -> TableParts
-    ensures { result ≡ table_at n t }
-{
-    TableParts {
-        table: t,
-        answer: Done { refusal: n },
-    }
-}
-
-pub fn queue_done(q: Queue, n: u8) -> QueueParts
-    ensures { result ≡ queue_at n q }
-{
-    QueueParts {
-        queue: q,
-        answer: Done { refusal: n },
-    }
-}
-
 // The queue with the sequence marked; full, it stays.
 pub fn queue_step(q: Queue, seq: u64, on: bool) -> QueueParts
     requires { QueueWell q }
     ensures { result ≡ marked_at seq on q (on && leb queue_slots q.count) }
 {
-    let full = on & (QUEUE_SLOTS <= q.count);
-    if full {
-        return queue_done(q, NO_SLOT);
+    if on & (QUEUE_SLOTS <= q.count) {
+        return QueueParts {
+            queue: q,
+            answer: Done::from(Err(Refusal::NoSlot)),
+        };
     }
-    let p = marked(q, seq, on);
-    queue_done(p, ACCEPTED)
+    QueueParts {
+        queue: marked(q, seq, on),
+        answer: Done::from(Ok(())),
+    }
 }
 
 // The table with the item put on the path.
@@ -71,10 +45,14 @@ pub fn used_step(t: Table, seq: u64, path: u64) -> TableParts
     requires { TableWell t }
     ensures { result ≡ used_at path t (first_with (has_seq seq) (live t)) }
 {
-    let f = tables::seek_seq(t, seq);
-    if f.present {
-        let p = tables::set_path(t, f.place, path);
-        return table_done(p, ACCEPTED);
+    match tables::seek_seq(t.live(), seq) {
+        Some(i) => TableParts {
+            table: tables::set_path(t, i, path),
+            answer: Done::from(Ok(())),
+        },
+        None => TableParts {
+            table: t,
+            answer: Done::from(Err(Refusal::InternalError)),
+        },
     }
-    table_done(t, INTERNAL_ERROR)
 }

@@ -1,10 +1,10 @@
 -- docs/RULES.md, "Well-formed IDs": the sixteen conjuncts, by their numbers there. (Of conjunct 1, the destination capacity is no field of the state.)
 use Rattle.std.specs.Prelude.{ℕ, ◌*◌, ◌%◌, List, [], ◌∷◌, ◌++◌, map, Bool, not, ◌&&◌, ◌||◌, eqb, leb, ltb}
 use Rattle.lists.specs.Defs.{nought, all, past, pairwise, rising}
-use Rattle.values.specs.Limits.{max_cid_len, token_len, max_dcid_limit, max_cids_count, min_scid_limit, table_slots, queue_slots, max_sequence, capacity_of}
+use Rattle.values.specs.Limits.{max_dcid_limit, max_cids_count, min_scid_limit, table_slots, queue_slots, max_sequence, capacity_of}
 use Rattle.values.specs.Cid.{id_formed, same_id}
 use Rattle.values.specs.Token.{token_formed_of}
-use Rattle.tables.specs.Table.{live, seq_of}
+use Rattle.tables.specs.Table.{is_zero, live, seq_of}
 use Rattle.tables.specs.declared.sequences.Queue.{Queue}
 use Rattle.tables.specs.declared.items.Item.{Item}
 use Rattle.tables.specs.declared.items.Table.{Table}
@@ -13,17 +13,6 @@ use Rattle.ids_state.specs.declared.state.Ids.{Ids}
 -- 13: a length of at most 20, and zeros past it; 14: an absent token is zeros, an absent path is 0; 9: a token, but for sequence 0
 abbrev pub item_formed_of : Item → Bool
 item_formed_of x = id_formed x.cid && token_formed_of x.token && (x.has_path || nought x.path) && (x.token.present || nought x.seq)
-
--- the item is the zero item
-abbrev pub is_zero : Item → Bool
-is_zero x =
-    nought x.seq
-    && nought x.path
-    && nought x.cid.len
-    && past nought max_cid_len 0 x.cid.bytes
-    && past nought token_len 0 x.token.bytes
-    && not x.token.present
-    && not x.has_path
 
 -- 7, 8: neither the sequences nor the IDs are equal
 abbrev pub apart : Item → Item → Bool

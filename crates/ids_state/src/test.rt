@@ -1,135 +1,89 @@
 // The test of the whole state: the bounds first, since the loops over the tables need them.
 ghost use Rattle.std.specs.Prelude.{◌≡◌, ◌≤◌};
 ghost use Rattle.values.specs.Limits.{table_slots};
-ghost use Rattle.ids_state.specs.Formed.{bounded, destinations_formed, sources_formed, well_formed};
+ghost use Rattle.ids_state.specs.Formed.{bounded, destinations_formed, queue_formed_of, sources_formed, well_formed};
 
+use crate::rows;
 use crate::state::Ids;
-use crate::{rows, zeros};
-use tables::Table;
+use tables::{Queue, Table};
 use values::limits::{
     MAX_CIDS_COUNT, MAX_DCID_LIMIT, MAX_SEQUENCE, MIN_SCID_LIMIT, QUEUE_SLOTS, TABLE_SLOTS,
 };
 
-fn sources(t: Table, next: u64) -> bool
-    requires { (1 ≤ t.count) × (t.count ≤ table_slots) }
-    ensures { result ≡ sources_formed t next }
+#[tactic(auto, using(crate::proofs::Laws::take_first))]
+fn sources(t: &Table, next: u64) -> bool
+    requires { (1 ≤ t.now.count) × (t.now.count ≤ table_slots) }
+    ensures { result ≡ sources_formed t.now next }
 {
-    let count = t.count;
-    let first = t.items[0];
+    let first = &t.items[0];
     let mut ok = rows::item_formed(first);
     let mut up = true;
     let mut last = first.seq;
-    let mut i: usize = 1;
-    while i < count {
-        let x = t.items[i];
-        let z = rows::item_formed(x);
-        let y = last < x.seq;
-        ok = ok & z;
-        up = up & y;
+    for x in &t.items[1..t.count] {
+        ok &= rows::item_formed(x);
+        up &= last < x.seq;
         last = x.seq;
-        i += 1;
     }
-    let mut acc = tables::blank();
-    let mut j: usize = count;
-    while j < TABLE_SLOTS {
-        let x = t.items[j];
-        acc = rows::merge(acc, x);
-        j += 1;
-    }
-    let z = rows::zero_item(acc);
-    ok & (up & (last < next)) & z
+    ok & up & (last < next) & values::all_nothing(&t.items[t.count..])
 }
 
-fn destinations(t: Table) -> bool
-    requires { t.count ≤ table_slots }
-    ensures { result ≡ destinations_formed t }
+fn destinations(t: &Table) -> bool
+    requires { t.now.count ≤ table_slots }
+    ensures { result ≡ destinations_formed t.now }
 {
-    let count = t.count;
+    let live = t.live();
     let mut ok = true;
     let mut far = true;
-    let mut i: usize = 0;
-    while i < count {
-        let x = t.items[i];
-        let z = rows::item_formed(x);
-        ok = ok & z;
-        let n = i + 1;
-        let mut k: usize = n;
-        while k < count {
-            let y = t.items[k];
-            let w = rows::differ(x, y);
-            far = far & w;
-            k += 1;
+    for (i, x) in live.iter().enumerate() {
+        ok &= rows::item_formed(x);
+        for y in &live[i + 1..] {
+            far &= rows::differ(x, y);
         }
-        i = n;
     }
-    let mut acc = tables::blank();
-    let mut j: usize = count;
-    while j < TABLE_SLOTS {
-        let x = t.items[j];
-        acc = rows::merge(acc, x);
-        j += 1;
+    ok & far & values::all_nothing(&t.items[t.count..])
+}
+
+// An empty queue is the common case: how many zeros it has is fixed, and the compiler unrolls the loop over them.
+fn queue_formed(q: &Queue) -> bool
+    ensures { result ≡ queue_formed_of q.now }
+{
+    if q.count == 0 {
+        return values::all_nothing(&q.items);
     }
-    let z = rows::zero_item(acc);
-    ok & far & z
+    q.items
+        .get(q.count..)
+        .is_none_or(|rest| values::all_nothing(rest))
 }
 
 // Nothing here can wrap, whatever the numbers are: the halves stand for 2 * scid_limit - 1 <= capacity and destinations < 2 * dcid_limit.
-fn within(
-    dcid_limit: u64,
-    scid_limit: u64,
-    capacity: usize,
-    sources: usize,
-    destinations: usize,
-    next: u64,
-    retire_prior_to: u64,
-    advertised: usize,
-    retired: usize,
-) -> bool
-    ensures { result ≡ bounded dcid_limit scid_limit capacity sources destinations next retire_prior_to advertised retired }
+fn within(t: &Ids) -> bool
+    ensures { result ≡ bounded t.now.dcid_limit t.now.scid_limit t.now.scid_capacity t.now.scids.count t.now.dcids.count t.now.next_scid_seq t.now.retire_prior_to t.now.scids_to_advertise.count t.now.dcids_to_retire.count }
 {
-    let half = (capacity / 2 + capacity % 2) as u64;
-    let pairs = (destinations / 2) as u64;
-    (1 <= dcid_limit)
-        & (dcid_limit <= MAX_DCID_LIMIT)
-        & (MIN_SCID_LIMIT <= scid_limit)
-        & (scid_limit <= MAX_CIDS_COUNT)
-        & (capacity % 2 == 1)
-        & (scid_limit <= half)
-        & (capacity <= TABLE_SLOTS)
-        & (1 <= sources)
-        & (sources <= capacity)
-        & (pairs < dcid_limit)
-        & (1 <= next)
-        & (next <= MAX_SEQUENCE)
-        & (retire_prior_to <= next)
-        & (advertised <= QUEUE_SLOTS)
-        & (retired <= QUEUE_SLOTS)
+    let half = (t.scid_capacity / 2 + t.scid_capacity % 2) as u64;
+    let pairs = (t.dcids.count / 2) as u64;
+    (1 <= t.dcid_limit)
+        & (t.dcid_limit <= MAX_DCID_LIMIT)
+        & (MIN_SCID_LIMIT <= t.scid_limit)
+        & (t.scid_limit <= MAX_CIDS_COUNT)
+        & (t.scid_capacity % 2 == 1)
+        & (t.scid_limit <= half)
+        & (t.scid_capacity <= TABLE_SLOTS)
+        & (1 <= t.scids.count)
+        & (t.scids.count <= t.scid_capacity)
+        & (pairs < t.dcid_limit)
+        & (1 <= t.next_scid_seq)
+        & (t.next_scid_seq <= MAX_SEQUENCE)
+        & (t.retire_prior_to <= t.next_scid_seq)
+        & (t.scids_to_advertise.count <= QUEUE_SLOTS)
+        & (t.dcids_to_retire.count <= QUEUE_SLOTS)
 }
 
-pub fn formed(t: Ids) -> bool
-    ensures { result ≡ well_formed t }
+pub fn formed(t: &Ids) -> bool
+    ensures { result ≡ well_formed t.now }
 {
-    let s = t.scids;
-    let d = t.dcids;
-    let a = t.scids_to_advertise;
-    let q = t.dcids_to_retire;
-    if within(
-        t.dcid_limit,
-        t.scid_limit,
-        t.scid_capacity,
-        s.count,
-        d.count,
-        t.next_scid_seq,
-        t.retire_prior_to,
-        a.count,
-        q.count,
-    ) {
-        let x = sources(s, t.next_scid_seq);
-        let y = destinations(d);
-        let z = zeros::queue_formed(a);
-        let w = zeros::queue_formed(q);
-        x & y & z & w
-    } else {
-        false
-    }
+    within(t)
+        && (sources(&t.scids, t.next_scid_seq)
+            & destinations(&t.dcids)
+            & queue_formed(&t.scids_to_advertise)
+            & queue_formed(&t.dcids_to_retire))
 }

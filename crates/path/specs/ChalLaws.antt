@@ -4,7 +4,6 @@ use Rattle.std.proofs.Common.{sym, ap, ap₂, ◌∙◌, arith, eq-eqb, ne_eqb}
 use Rattle.std.proofs.lemmas.Bool.{not-true, not-false}
 use Rattle.lists.specs.Defs.{any, keep}
 use Rattle.values.specs.Limits.{min_client_initial_len}
-use Rattle.values.specs.Time.{deadline_of}
 use Rattle.challenges.specs.Challenges.{ReceivedWell, SentWell, waiting, standing, received_of, sent_of, spans_of}
 use Rattle.challenges.specs.Challenges as C
 use Rattle.challenges.specs.Laws.{keep_view, picked_view}
@@ -16,9 +15,9 @@ use Rattle.challenges.specs.declared.sent.Challenge as CS
 use Rattle.paths_state.specs.Formed.{path_formed_of}
 use Rattle.paths_state.specs.Laws.{path_facts}
 use Rattle.paths_state.specs.declared.state.Path as S
-use Rattle.paths_rules.specs.State.{Path, Challenge}
+use Rattle.paths_rules.specs.State.{Challenge}
 use Rattle.paths_rules.specs.With.{with_ask, with_sent, with_active_of}
-use Rattle.paths_rules.specs.Path.{pop, receive, due, last_size, matching, unmatched, carries, matches, heeds, spans, largest_after, validates, matched, respond, reached, promote, rank_validated, rank_validating_mtu}
+use Rattle.paths_rules.specs.Path.{pop, receive, last_size, matching, unmatched, carries, matches, heeds, spans, largest_after, validated, validates, matched, respond, reached, promote, rank_validated, rank_validating_mtu}
 use Rattle.paths_rules.proofs.Steps.{heeds_is, deaf}
 use Rattle.path.specs.Reading.{chal_view, chal_of, path_view, path_of}
 use Rattle.path.specs.ReadingLaws.{chals_is}
@@ -41,22 +40,12 @@ any_view d (c ∷ l) = ap (λ (b : Bool). C.carries d c || b) (any_view d l)
 left_back : (d : ℕ) (l : List CS.Challenge) → map chal_of (unmatched d (map chal_view l)) ≡ C.unmatched d l
 left_back d l = ap (map chal_of) (keep_view chal_view (λ (c : Challenge). not (carries d c)) (C.differs d) (λ x. refl) l) ∙ chals_is (C.unmatched d l)
 
-due_view : (l : List CS.Challenge) (v : Path) → v.sent ≡ map chal_view l → C.due l ≡ due v
-due_view l v e = go l ∙ ap (λ (m : List Challenge). due (with_sent m v)) (sym e)
-  where
-    go : (l : List CS.Challenge) → C.due l ≡ due (with_sent (map chal_view l) v)
-    go [] = refl
-    go (c ∷ l) = refl
-
 module _ (x : S.Path) (w : path_formed_of x ≡ true) where
   pub received_held : ReceivedWell x.recv_chals
   received_held = (path_facts x w).received
 
   pub sent_held : SentWell x.sent_chals
   sent_held = (path_facts x w).sent
-
-  pub due_is : deadline_of (C.due (standing x.sent_chals)) ≡ deadline_of (due (path_view x))
-  due_is = ap deadline_of (due_view (standing x.sent_chals) (path_view x) refl)
 
   pub pop_is : (q : Received) → q ≡ received_of (drop 1 (waiting x.recv_chals)) → put_received q x ≡ path_of (pop (path_view x))
   pop_is q e = ap₂ put_received e (back x w)
@@ -73,7 +62,7 @@ module _ (x : S.Path) (w : path_formed_of x ≡ true) where
         (cond a (cond b (with_sent [] (with_active_of multi (promote rank_validated (reached d (path_view x))))) (with_ask true (reached d (path_view x))))
         (path_view x))
 
-    respond_none : heeds d (path_view x) ≡ false → x ≡ path_of (respond d multi (path_view x))
+    pub respond_none : heeds d (path_view x) ≡ false → x ≡ path_of (respond d multi (path_view x))
     respond_none t = back x w ∙ sym (ap (λ (a : Bool). respond_at a (leb min_client_initial_len (largest_after d (path_view x)))) t)
 
     module _ (t : heeds d (path_view x) ≡ true) (n r : ℕ) (e : n ≡ largest_after d (path_view x)) (f : r ≡ max x.state rank_validating_mtu) where
@@ -87,11 +76,6 @@ module _ (x : S.Path) (w : path_formed_of x ≡ true) where
           (λ i. put_probed ((g ∙ sym (ap sent_of (left_back d (standing x.sent_chals)))) i) (e i) (f i) (back x w i))
           ∙ sym (ap₂ respond_at t (ap (leb min_client_initial_len) (sym e) ∙ b))
 
--- a response that is refused, or on a Validated path, is idle
-pub busy : (ok b : Bool) → (not ok || b) ≡ false → (ok ≡ true) × (b ≡ false)
-busy true b e = (refl, e)
-busy false b e = let z : ◌≡◌ {A = ℕ} 0 1 = cc in absurd (omega arith)
-
 -- none passes exactly if none is kept
 kept_any : {A B : Type 0} (p : A → Bool) (f : A → B) (l : List A) → eqb (length (map f (keep p l))) 0 ≡ not (any p l)
 kept_any p f [] = refl
@@ -101,36 +85,25 @@ kept_any p f (x ∷ l) = test (p x) (kept_any p f l)
     test true e = ne_eqb (length (map f (x ∷ keep p l))) 0 (λ z. omega arith)
     test false e = e
 
--- one that is given, and that the path does not heed
-abbrev Deaf : S.Path → ℕ → Bool → Type 0
-Deaf x d ok = ok ≡ true → heeds d (path_view x) ≡ false
-
 module _ (x : S.Path) (d : ℕ) where
-  pub idle_deaf : (ok : Bool) → (not ok || eqb x.state rank_validated) ≡ true → Deaf x d ok
-  idle_deaf true t e = ap (λ (b : Bool). not b && matches d (path_view x)) t
-  idle_deaf false t e = let z : ◌≡◌ {A = ℕ} 0 1 = cc in absurd (omega arith)
+  pub validated_deaf : validated (path_view x) ≡ true → heeds d (path_view x) ≡ false
+  validated_deaf t = ap (λ (b : Bool). not b && matches d (path_view x)) t
 
-  pub respond_idle : (multi ok : Bool) → (ok ≡ true → path_formed_of x ≡ true) → Deaf x d ok → x ≡ cond ok (path_of (respond d multi (path_view x))) x
-  respond_idle multi true w t = respond_none x (w refl) d multi (t refl)
-  respond_idle multi false w t = refl
+  abbrev validates_at : Bool → Bool
+  validates_at b = b && leb min_client_initial_len (largest_after d (path_view x))
 
-  abbrev validates_at : Bool → Bool → Bool
-  validates_at a b = a && (b && leb min_client_initial_len (largest_after d (path_view x)))
+  pub validates_none : heeds d (path_view x) ≡ false → false ≡ validates d (path_view x)
+  validates_none t = sym (ap validates_at t)
 
-  pub validates_idle : (ok : Bool) → Deaf x d ok → false ≡ (ok && validates d (path_view x))
-  validates_idle true t = sym (ap (validates_at true) (t refl))
-  validates_idle false t = refl
-
-  pub validates_is : (ok : Bool) → ok ≡ true → heeds d (path_view x) ≡ true → (n : ℕ) → n ≡ largest_after d (path_view x) → leb min_client_initial_len n ≡ (ok && validates d (path_view x))
-  validates_is ok t h n e = ap (leb min_client_initial_len) e ∙ sym (ap₂ validates_at t h)
+  pub validates_is : heeds d (path_view x) ≡ true → (n : ℕ) → n ≡ largest_after d (path_view x) → leb min_client_initial_len n ≡ validates d (path_view x)
+  validates_is t n e = ap (leb min_client_initial_len) e ∙ sym (ap validates_at t)
 
   module _ (now : ℕ) where
-    abbrev matched_at : Bool → Bool → Spans
-    matched_at a b = spans_of (cond a (cond b (spans d now (path_view x)) []) [])
+    abbrev matched_at : Bool → Spans
+    matched_at b = spans_of (cond b (spans d now (path_view x)) [])
 
-    pub matched_idle : (ok : Bool) → Deaf x d ok → spans_of [] ≡ spans_of (cond ok (matched d now (path_view x)) [])
-    matched_idle true t = sym (ap (matched_at true) (t refl))
-    matched_idle false t = refl
+    pub matched_none : heeds d (path_view x) ≡ false → spans_of [] ≡ spans_of (matched d now (path_view x))
+    matched_none t = sym (ap matched_at t)
 
     -- what is found among the challenges that stand
     module _ (r : Matches) (e : r ≡ record { spans = spans_of (C.spans d now (standing x.sent_chals)); size = C.last_size 0 (C.matching d (standing x.sent_chals)) }) where
@@ -140,12 +113,12 @@ module _ (x : S.Path) (d : ℕ) where
           ap (λ (m : Matches). eqb m.spans.count 0) e ∙ kept_any (C.carries d) (C.span_to now) (standing x.sent_chals)
           ∙ sym (ap not (any_view d (standing x.sent_chals)))
 
-      pub found_heeded : eqb x.state rank_validated ≡ false → (r.spans.count ≡ 0 → ⊥) → heeds d (path_view x) ≡ true
+      pub found_heeded : validated (path_view x) ≡ false → (r.spans.count ≡ 0 → ⊥) → heeds d (path_view x) ≡ true
       found_heeded t k = heeds_is d (path_view x) t ∙ not-false (matches d (path_view x)) (sym found ∙ ne_eqb r.spans.count 0 k)
 
       module _ (k : r.spans.count ≡ 0) where
-        pub found_deaf : (ok : Bool) → Deaf x d ok
-        found_deaf ok i = deaf d (path_view x) (not-true (matches d (path_view x)) (sym found ∙ eq-eqb r.spans.count 0 k))
+        pub found_deaf : heeds d (path_view x) ≡ false
+        found_deaf = deaf d (path_view x) (not-true (matches d (path_view x)) (sym found ∙ eq-eqb r.spans.count 0 k))
 
         pub found_none : r.spans ≡ spans_of []
         found_none = ap (λ (m : Matches). m.spans) e ∙ ap spans_of (none (C.spans d now (standing x.sent_chals)) (sym (ap (λ (m : Matches). m.spans.count) e) ∙ k))
@@ -159,8 +132,8 @@ module _ (x : S.Path) (d : ℕ) where
           ap (λ (m : Matches). max x.max_challenge_size m.size) e
           ∙ ap (max x.max_challenge_size) (sym (last_view 0 (C.matching d (standing x.sent_chals))) ∙ sym (ap (last_size 0) (match_view d (standing x.sent_chals))))
 
-      pub matched_is : (ok : Bool) → ok ≡ true → heeds d (path_view x) ≡ true → r.spans ≡ spans_of (cond ok (matched d now (path_view x)) [])
-      matched_is ok t h =
+      pub matched_is : heeds d (path_view x) ≡ true → r.spans ≡ spans_of (matched d now (path_view x))
+      matched_is t =
           ap (λ (m : Matches). m.spans) e
           ∙ ap spans_of (sym (picked_view chal_view (carries d) (C.carries d) (λ c. refl) (λ (c : Challenge). now - c.sent) (C.span_to now) (λ c. refl) (standing x.sent_chals)))
-          ∙ sym (ap₂ matched_at t h)
+          ∙ sym (ap matched_at t)

@@ -1,3 +1,4 @@
+pub mod Ranks
 pub mod Reading
 pub mod ReadingLaws
 pub mod Puts

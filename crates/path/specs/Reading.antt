@@ -1,11 +1,16 @@
 -- The state of one path, read as the path of the rules, and the one state that such a path stands for: what is absent is zero.
-use Rattle.std.specs.Prelude.{ℕ, map}
-use Rattle.std.proofs.Math.Option.{Option}
+use Rattle.std.specs.Prelude.{Option as Optional, Some, None, ℕ, map}
+use Rattle.std.proofs.Math.Option.{Option, none, some}
 use Rattle.lists.specs.Defs.{given, maybe, present}
 use Rattle.challenges.specs.declared.sent.Challenge as C
 use Rattle.challenges.specs.Challenges.{waiting, standing, received_of, sent_of}
 use Rattle.paths_state.specs.declared.state.Path as S
 use Rattle.paths_rules.specs.State.{Challenge, Path}
+
+-- an option of the code, as the rules have it
+abbrev pub option_view : {A : Type 0} → Optional A → Option A
+option_view None = none
+option_view (Some a) = some a
 
 -- ---- a challenge sent
 

@@ -1,16 +1,10 @@
 -- Challenges are lost, one after the other.
 use Rattle.std.specs.Prelude.{ℕ, ◌+◌, ◌≤◌, ◌<◌, ◌≡◌, refl, List, [], ◌∷◌, map, Bool, true, false, cond, ◌&&◌, leb, ltb, length, drop}
-use Rattle.std.proofs.Common.{sym, ap, subst, ◌∙◌, arith, not-suc-le-zero, lt-ltb, le-ltb, ltb-true, leb-true, leb-false}
+use Rattle.std.proofs.Common.{sym, ap, subst, ◌∙◌, arith, not-suc-le-zero, ltb-true}
 use Rattle.std.proofs.lemmas.List.{length-map}
-use Rattle.lists.specs.Bools.{and_both}
 use Rattle.values.specs.Limits.{max_lost, max_path_chals_sent, max_probing_timeouts}
-use Rattle.values.specs.Time.{deadline_of}
-use Rattle.values.specs.declared.time.Deadline.{Deadline}
-use Rattle.challenges.specs.Challenges.{SentWell, standing, sent_of}
-use Rattle.challenges.specs.Challenges as C
+use Rattle.challenges.specs.Challenges.{SentWell, standing}
 use Rattle.challenges.specs.Laws.{sent_at, standing_long}
-use Rattle.challenges.specs.declared.sent.Sent.{Sent}
-use Rattle.challenges.specs.declared.sent.Challenge as CS
 use Rattle.paths_state.specs.Formed.{path_formed_of}
 use Rattle.paths_state.specs.Laws.{path_facts}
 use Rattle.paths_state.specs.declared.state.Path as S
@@ -18,9 +12,8 @@ use Rattle.paths_rules.specs.State.{Path, Challenge}
 use Rattle.paths_rules.specs.With.{with_ask, with_lost, with_sent}
 use Rattle.paths_rules.specs.Path.{expire, failed, probing, timeout}
 use Rattle.path.specs.Reading.{chal_view, chal_of, path_view, path_of}
-use Rattle.path.specs.ReadingLaws.{chals_is, path_of_lem}
+use Rattle.path.specs.ReadingLaws.{path_of_lem}
 use Rattle.path.specs.FieldLaws.{back}
-use Rattle.path.specs.Puts.{put_lost}
 
 -- the front deadline is passed
 abbrev pub late : ℕ → List Challenge → Bool
@@ -42,42 +35,6 @@ pub record Known (x : S.Path) : Type 0 where
 
 pub known_of : (x : S.Path) → path_formed_of x ≡ true → Known x
 known_of x w = record { is = back x w; well = (path_facts x w).sent }
-
--- ---- the front
-
-pub late_is : (now : ℕ) (d : Deadline) (l : List CS.Challenge) → d ≡ deadline_of (C.due l) → (d.set && leb d.at.us now) ≡ late now (map chal_view l)
-late_is now d l e = ap (λ (t : Deadline). t.set && leb t.at.us now) e ∙ go l
-  where
-    go : (l : List CS.Challenge) → ((deadline_of (C.due l)).set && leb (deadline_of (C.due l)).at.us now) ≡ late now (map chal_view l)
-    go [] = refl
-    go (c ∷ l) = refl
-
-drop_back : (l : List CS.Challenge) → map chal_of (drop 1 (map chal_view l)) ≡ drop 1 l
-drop_back [] = refl
-drop_back (c ∷ l) = chals_is l
-
-module _ (x : S.Path) (k : Known x) where
-  abbrev lose_at : Bool → S.Path
-  lose_at b =
-      path_of
-      (cond b
-      (with_ask true (with_lost (x.lost_chal + 1) (with_sent (drop 1 (path_view x).sent) (path_view x))))
-      (failed (with_lost (x.lost_chal + 1) (path_view x))))
-
-  -- s and r are what stands after it, and the state
-  module _ (s : Sent) (r : ℕ) where
-    lost_at : (b : Bool) → leb max_probing_timeouts (x.lost_chal + 1) ≡ b → s ≡ sent_of (cond b [] (drop 1 (standing x.sent_chals))) → r ≡ cond b 0 x.state
-        → put_lost s (x.lost_chal + 1) r b x ≡ path_of (lose_front (path_view x))
-    lost_at true t e f =
-        (λ i. put_lost (e i) (x.lost_chal + 1) (f i) true (k.is i))
-        ∙ sym (ap lose_at (le-ltb (x.lost_chal + 1) max_probing_timeouts (leb-true max_probing_timeouts (x.lost_chal + 1) t)))
-    lost_at false t e f =
-        (λ i. put_lost ((e ∙ sym (ap sent_of (drop_back (standing x.sent_chals)))) i) (x.lost_chal + 1) (f i) false (k.is i))
-        ∙ sym (ap lose_at (lt-ltb (x.lost_chal + 1) max_probing_timeouts (leb-false max_probing_timeouts (x.lost_chal + 1) t)))
-
-    pub lost_is : s ≡ sent_of (cond (leb max_probing_timeouts (x.lost_chal + 1)) [] (drop 1 (standing x.sent_chals))) → r ≡ cond (leb max_probing_timeouts (x.lost_chal + 1)) 0 x.state
-        → put_lost s (x.lost_chal + 1) r (leb max_probing_timeouts (x.lost_chal + 1)) x ≡ path_of (lose_front (path_view x))
-    lost_is e f = lost_at (leb max_probing_timeouts (x.lost_chal + 1)) refl e f
 
 -- ---- one after the other
 
@@ -147,64 +104,52 @@ module _ (now : ℕ) (v : Path) where
 
 -- ---- the loop
 
-pub record Going (now : ℕ) (x u : S.Path) (going : Bool) : Type 0 where
+-- x as it was at first, and u as it is: what is left to expire is the same
+pub record Going (now : ℕ) (x u : S.Path) : Type 0 where
   pub known : Known u
   pub few : length (path_view u).sent ≤ max_path_chals_sent
   pub low : 0 < length (path_view u).sent → u.lost_chal ≤ max_lost
-  pub test : going ≡ (probing (path_view x) && late now (path_view u).sent)
-  pub same : cond (probing (path_view x)) (expire now (path_view u).sent (path_view u)) (path_view u) ≡ timeout now (path_view x)
+  pub same : expire now (path_view u).sent (path_view u) ≡ expire now (path_view x).sent (path_view x)
 
 module _ (now : ℕ) (x : S.Path) where
-  pub going_first : path_formed_of x ≡ true → (b : Bool) → b ≡ expires now (path_view x) → Going now x x b
-  going_first w b e =
+  pub going_first : path_formed_of x ≡ true → Going now x x
+  going_first w =
       let f = path_facts x w in
       let n = length-map (standing x.sent_chals) chal_view ∙ standing_long x.sent_chals f.sent in
-      record { known = known_of x w; few = omega (arith, n, f.sent.few); low = λ h. f.lost_most; test = e; same = refl }
+      record { known = known_of x w; few = omega (arith, n, f.sent.few); low = λ h. f.lost_most; same = refl }
 
-  module _ (u : S.Path) (b : Bool) (g : Going now x u b) (t : b ≡ true) (y : S.Path) (e : y ≡ path_of (lose_front (path_view u))) where
-    view_next : path_view y ≡ lose_front (path_view u)
-    view_next = ap path_view e ∙ path_of_lem (lose_front (path_view u))
+  module _ (u : S.Path) (g : Going now x u) where
+    pub going_lost : late now (path_view u).sent ≡ true → u.lost_chal ≤ max_lost
+    going_lost t = g.low (late_some now (path_view u) t)
 
-    is_probing : probing (path_view x) ≡ true
-    is_probing = (and_both (probing (path_view x)) (late now (path_view u).sent) (sym g.test ∙ t)).0
+    module _ (t : late now (path_view u).sent ≡ true) (y : S.Path) (e : y ≡ path_of (lose_front (path_view u))) where
+      view_next : path_view y ≡ lose_front (path_view u)
+      view_next = ap path_view e ∙ path_of_lem (lose_front (path_view u))
 
-    is_late : late now (path_view u).sent ≡ true
-    is_late = (and_both (probing (path_view x)) (late now (path_view u).sent) (sym g.test ∙ t)).1
+      next_few : length (lose_front (path_view u)).sent ≤ max_path_chals_sent
+      next_few = omega (arith, fewer now (path_view u) t, g.few)
 
-    next_few : length (lose_front (path_view u)).sent ≤ max_path_chals_sent
-    next_few = omega (arith, fewer now (path_view u) is_late, g.few)
+      next_well : SentWell y.sent_chals
+      next_well =
+          sent_at (map chal_of (lose_front (path_view u)).sent) y.sent_chals (ap (λ (z : S.Path). z.sent_chals) e)
+          (omega (arith, length-map (lose_front (path_view u)).sent chal_of, next_few))
 
-    pub going_less : length (path_view y).sent < length (path_view u).sent
-    going_less = subst (λ (v : Path). length v.sent < length (path_view u).sent) (sym view_next) (fewer now (path_view u) is_late)
+      pub going_less : length (path_view y).sent < length (path_view u).sent
+      going_less = subst (λ (v : Path). length v.sent < length (path_view u).sent) (sym view_next) (fewer now (path_view u) t)
 
-    pub next_well : SentWell y.sent_chals
-    next_well =
-        sent_at (map chal_of (lose_front (path_view u)).sent) y.sent_chals (ap (λ (z : S.Path). z.sent_chals) e)
-        (omega (arith, length-map (lose_front (path_view u)).sent chal_of, next_few))
+      pub going_next : Going now x y
+      going_next =
+          record {
+            known = record { is = e ∙ ap path_of (sym view_next); well = next_well };
+            few = subst (λ (v : Path). length v.sent ≤ max_path_chals_sent) (sym view_next) next_few;
+            low = subst (λ (v : Path). 0 < length v.sent → v.lost ≤ max_lost) (sym view_next) (few_lost now (path_view u));
+            same = ap (λ (v : Path). expire now v.sent v) view_next ∙ expire_front now (path_view u) t ∙ g.same;
+          }
 
-    going_same : cond (probing (path_view x)) (expire now (path_view y).sent (path_view y)) (path_view y) ≡ timeout now (path_view x)
-    going_same =
-        ap (λ (p : Bool). cond p (expire now (path_view y).sent (path_view y)) (path_view y)) is_probing
-        ∙ ap (λ (v : Path). expire now v.sent v) view_next
-        ∙ expire_front now (path_view u) is_late
-        ∙ ap (λ (p : Bool). cond p (expire now (path_view u).sent (path_view u)) (path_view u)) (sym is_probing)
-        ∙ g.same
-
-    pub going_next : (a : Bool) → a ≡ late now (path_view y).sent → Going now x y a
-    going_next a f =
-        record {
-          known = record { is = e ∙ ap path_of (sym view_next); well = next_well };
-          few = subst (λ (v : Path). length v.sent ≤ max_path_chals_sent) (sym view_next) next_few;
-          low = subst (λ (v : Path). 0 < length v.sent → v.lost ≤ max_lost) (sym view_next) (few_lost now (path_view u));
-          test = f ∙ ap (λ (p : Bool). p && late now (path_view y).sent) (sym is_probing);
-          same = going_same;
-        }
-
-  pub going_lost : (u : S.Path) (b : Bool) → Going now x u b → b ≡ true → u.lost_chal ≤ max_lost
-  going_lost u b g t = g.low (late_some now (path_view u) (and_both (probing (path_view x)) (late now (path_view u).sent) (sym g.test ∙ t)).1)
-
-  pub going_done : (u : S.Path) (b : Bool) → Going now x u b → b ≡ false → u ≡ path_of (timeout now (path_view x))
-  going_done u b g t = g.known.is ∙ ap path_of (sym (expire_stays now (path_view u) (probing (path_view x)) (sym g.test ∙ t)) ∙ g.same)
+    pub going_done : probing (path_view x) ≡ true → late now (path_view u).sent ≡ false → u ≡ path_of (timeout now (path_view x))
+    going_done p t =
+        g.known.is
+        ∙ ap path_of (sym (expire_done now (path_view u) t) ∙ g.same ∙ sym (ap (λ (b : Bool). cond b (expire now (path_view x).sent (path_view x)) (path_view x)) p))
 
   -- a path that is not overdue stays as it is
   pub timeout_stays : path_formed_of x ≡ true → expires now (path_view x) ≡ false → path_of (timeout now (path_view x)) ≡ x

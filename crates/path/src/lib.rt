@@ -4,11 +4,10 @@
 mod chals;
 mod credit;
 mod fields;
-mod picks;
-pub mod ranks;
 mod responses;
 mod sends;
 mod starts;
+mod states;
 mod tests;
 mod timeouts;
 
@@ -16,8 +15,9 @@ pub use chals::{due, popped, received, waiting_front};
 pub use credit::{gained, spent};
 pub use fields::{initiated, ping_in_use, pinged, verified, with_active, with_dcid, with_scid};
 pub use responses::{Answer, answered};
-pub use sends::{send_refusal, sent};
-pub use starts::{first_path, new_path, new_path_at};
+pub use sends::{sending, sent};
+pub use starts::{first_path, new_path};
+pub use states::PathState;
 pub use tests::{
     allowed, in_use, is_validated, listed_as, needs_frames, needs_padding, stays_listed, unused,
 };

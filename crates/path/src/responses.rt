@@ -1,14 +1,13 @@
-// A response to a challenge that was sent. With `ok` false it says nothing, and the path stays as it is. So it does where nobody asked [2].
-ghost use Rattle.std.specs.Prelude.{◌≡◌, ◌&&◌, cond, true, [], max};
+// A response to a challenge that was sent. Where nobody asked it says nothing, and the path stays as it is [2].
+ghost use Rattle.std.specs.Prelude.{◌≡◌};
 ghost use Rattle.challenges.specs.Challenges.{spans_of};
-ghost use Rattle.paths_state.specs.Formed.{path_formed_of};
 ghost use Rattle.paths_rules.specs.Path as R;
 ghost use Rattle.path.specs.Reading.{path_of, path_view};
 
-use crate::ranks::{VALIDATED, VALIDATING_MTU};
-use crate::sends;
-use challenges::Spans;
-use paths_state::Path;
+use crate::states::PathState;
+use crate::tests;
+use challenges::{Matches, Spans};
+use paths_state::{FormedPath, Path};
 use values::Moment;
 use values::limits::MIN_CLIENT_INITIAL_LEN;
 
@@ -20,62 +19,39 @@ pub struct Answer {
     pub yes: bool,
 }
 
-fn larger(a: u64, b: u64) -> u64
-    ensures { result ≡ max a b }
+// The matches are looked for once.
+pub fn answered(x: FormedPath, data: u64, now: Moment, multi: bool) -> Answer
+    ensures { result ≡ record { path = path_of (R.respond «data» multi (path_view x.entry.path.now)); spans = spans_of (R.matched «data» now.us (path_view x.entry.path.now)); yes = R.validates «data» (path_view x.entry.path.now) } }
 {
-    if a < b { b } else { a }
-}
-
-// The matches are looked for once, and the path is copied once.
-pub fn answered(x: Path, ok: bool, data: u64, now: Moment, multi: bool) -> Answer
-    requires { ok ≡ true → path_formed_of x ≡ true }
-    ensures { result ≡ record { path = cond ok (path_of (R.respond «data» multi (path_view x))) x; spans = spans_of (cond ok (R.matched «data» now.us (path_view x)) []); yes = ok && R.validates «data» (path_view x) } }
-{
-    let idle = !ok | (x.state == VALIDATED);
-    if idle {
-        let none = challenges::no_spans();
+    if tests::is_validated(x.path) {
         return Answer {
-            path: x,
-            spans: none,
+            path: *x.path,
+            spans: challenges::no_spans(),
             yes: false,
         };
     }
-    let s = x.sent_chals;
-    let found = challenges::sent_matches(s, data, now);
-    let spans = found.spans;
-    let mut u = x;
+    let mut path = *x.path;
+    let Matches { spans, size } = challenges::sent_matches(path.sent_chals, data, now);
     // Nothing is written before a match is found.
     if spans.count == 0 {
         return Answer {
-            path: u,
-            spans: spans,
+            path,
+            spans,
             yes: false,
         };
     }
-    let size = larger(x.max_challenge_size, found.size);
-    let rank = sends::raised(x.state, VALIDATING_MTU);
-    u.verified_peer_address = true;
-    u.lost_chal = 0;
-    u.max_challenge_size = size;
-    if MIN_CLIENT_INITIAL_LEN <= size {
-        let gone = challenges::no_sent();
-        let top = sends::raised(rank, VALIDATED);
-        u.sent_chals = gone;
-        u.active = multi;
-        u.state = top;
-        return Answer {
-            path: u,
-            spans: spans,
-            yes: true,
-        };
+    path.verified_peer_address = true;
+    path.lost_chal = 0;
+    path.max_challenge_size = path.max_challenge_size.max(size);
+    path.state = path.state.max(u8::from(PathState::ValidatingMtu));
+    let yes = MIN_CLIENT_INITIAL_LEN <= path.max_challenge_size;
+    if yes {
+        path.sent_chals = challenges::no_sent();
+        path.active = multi;
+        path.state = path.state.max(u8::from(PathState::Validated));
+    } else {
+        path.sent_chals = challenges::sent_unmatched(path.sent_chals, data);
+        path.need_send_challenge = true;
     }
-    let left = challenges::sent_unmatched(s, data);
-    u.sent_chals = left;
-    u.state = rank;
-    u.need_send_challenge = true;
-    Answer {
-        path: u,
-        spans: spans,
-        yes: false,
-    }
+    Answer { path, spans, yes }
 }

@@ -1,25 +1,16 @@
 // A challenge is sent.
-ghost use Rattle.std.specs.Prelude.{◌≡◌, cond, true, ◌*◌, ◌^◌, ◌≤◌, max, eqb};
+ghost use Rattle.std.specs.Prelude.{◌≡◌, ◌*◌, ◌^◌, ◌≤◌, MatchResult};
 ghost use Rattle.values.specs.Limits.{initial_chal_timeout, max_shift};
-ghost use Rattle.values.specs.Time.{moved_of, plus};
-ghost use Rattle.paths_state.specs.Formed.{path_formed_of};
-ghost use Rattle.paths_rules.specs.Path.{send};
+ghost use Rattle.values.specs.Refusals.{number};
+ghost use Rattle.paths_rules.specs.Path.{loss_time, send};
 ghost use Rattle.path.specs.Reading.{path_of, path_view};
 ghost use Rattle.path.specs.SendLaws.{refusal};
 
-use crate::ranks::VALIDATING;
+use crate::states::PathState;
 use challenges::Challenge;
-use paths_state::Path;
+use paths_state::{FormedPath, Path};
 use values::limits::{INITIAL_CHAL_TIMEOUT, MAX_PATH_CHALS_SENT, MAX_SHIFT};
-use values::refusals::{FAR_DEADLINE, NO_SLOT};
-use values::{Moment, Moved, Span};
-
-// Promotion only raises the rank.
-pub fn raised(rank: u8, to: u8) -> u8
-    ensures { result ≡ max rank to }
-{
-    if rank < to { to } else { rank }
-}
+use values::{Moment, Refusal, Span};
 
 // 25 ms, doubled for each challenge lost.
 fn back_off(lost: u64) -> Span
@@ -31,62 +22,38 @@ fn back_off(lost: u64) -> Span
     }
 }
 
-// When a challenge sent now counts as lost.
-fn loss_time(now: Moment, lost: u64) -> Moved
-    requires { lost ≤ max_shift }
-    ensures { result ≡ moved_of (plus now.us (initial_chal_timeout * 2 ^ lost)) }
+// When a challenge sent now counts as lost. FarDeadline: there is no such moment; NoSlot: sixteen challenges stand.
+pub fn sending(x: FormedPath, now: Moment) -> Result<Moment, Refusal>
+    ensures { MatchResult result (λ at. (refusal now.us (path_view x.entry.path.now) ≡ 0) × (at ≡ record { us = loss_time now.us x.entry.path.now.lost_chal })) (λ e. refusal now.us (path_view x.entry.path.now) ≡ number e) }
 {
-    let wait = back_off(lost);
-    values::moment_plus(now, wait)
-}
-
-// The refusal so far, n, stands; of 0 comes 8: no deadline; 6: sixteen challenges stand; 0 otherwise.
-pub fn send_refusal(x: Path, n: u8, now: Moment) -> u8
-    requires { n ≡ 0 → path_formed_of x ≡ true }
-    ensures { result ≡ cond (eqb n 0) (refusal now.us (path_view x)) n }
-{
-    if n != 0 {
-        return n;
-    }
-    let lost = x.lost_chal;
+    let lost = x.path.lost_chal;
     if MAX_SHIFT < lost {
-        return FAR_DEADLINE;
+        return Err(Refusal::FarDeadline);
     }
-    let due = loss_time(now, lost);
-    let Moved::To(deadline) = due else {
-        return FAR_DEADLINE;
-    };
-    if MAX_PATH_CHALS_SENT <= x.sent_chals.count {
-        return NO_SLOT;
+    let deadline = values::moment_plus(now, back_off(lost)).ok_or(Refusal::FarDeadline)?;
+    if MAX_PATH_CHALS_SENT <= x.path.sent_chals.count {
+        return Err(Refusal::NoSlot);
     }
-    0
+    Ok(deadline)
 }
 
-// It goes to the end. With `ok` false the path stays as it is.
-pub fn sent(x: Path, ok: bool, data: u64, size: u64, now: Moment) -> Path
-    requires { ok ≡ true → (path_formed_of x ≡ true) × (refusal now.us (path_view x) ≡ 0) }
-    ensures { result ≡ cond ok (path_of (send «data» size now.us (path_view x))) x }
+// It goes to the end.
+#[tactic(auto, using(crate::specs::ChalLaws::sent_held, crate::specs::SendLaws::send_room))]
+pub fn sent(x: FormedPath, data: u64, size: u64, now: Moment, deadline: Moment) -> Path
+    requires unrefused { refusal now.us (path_view x.path.now) ≡ 0 }
+    requires lost_at { deadline ≡ record { us = loss_time now.us x.path.now.lost_chal } }
+    ensures { result ≡ path_of (send «data» size now.us (path_view x.entry.path.now)) }
 {
-    if !ok {
-        return x;
-    }
-    let lost = x.lost_chal;
-    let due = loss_time(now, lost);
-    let Moved::To(deadline) = due else {
-        return x;
-    };
-    let c = Challenge {
-        data: data,
-        size: size,
+    let challenge = Challenge {
+        data,
+        size,
         sent: now,
-        deadline: deadline,
+        deadline,
     };
-    let s = x.sent_chals;
-    let p = challenges::sent_push(s, c);
-    let rank = raised(x.state, VALIDATING);
-    let mut u = x;
-    u.sent_chals = p;
-    u.state = rank;
-    u.need_send_challenge = false;
-    u
+    Path {
+        sent_chals: challenges::sent_push(x.path.sent_chals, challenge),
+        state: x.path.state.max(u8::from(PathState::Validating)),
+        need_send_challenge: false,
+        ..*x.path
+    }
 }

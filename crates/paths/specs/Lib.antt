@@ -1,6 +1,8 @@
 pub mod Reading
+pub mod Results
 pub mod Lists
 pub mod ReadingLaws
+pub mod Found
 pub mod CallLaws
 pub mod Acts
 pub mod ActLaws

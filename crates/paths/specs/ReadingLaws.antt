@@ -11,12 +11,12 @@ use Rattle.paths_rules.specs.State.{Path}
 use Rattle.paths_rules.specs.Path.{zero_path}
 use Rattle.paths_rules.specs.Table.{Table, path_at, with_paths}
 use Rattle.paths_state.specs.Formed.{live, well_formed}
-use Rattle.paths_state.specs.Laws.{PathsWell, facts}
+use Rattle.paths_state.specs.Laws.{PathsWell, all_at, facts}
 use Rattle.paths_state.specs.declared.state.Paths.{Paths}
 use Rattle.path.specs.Reading.{path_view, path_of}
 use Rattle.path.specs.ReadingLaws.{path_of_lem, path_is}
 use Rattle.paths.specs.Reading.{view, put_paths, paths_of}
-use Rattle.paths.specs.Lists.{set_padded, all_at}
+use Rattle.paths.specs.Lists.{set_padded}
 use Rattle.paths_state.specs.declared.state.Path as S
 use Rattle.paths_state.specs.Formed as F
 
@@ -91,6 +91,9 @@ module _ (t : Paths) (w : Tidy t) where
   -- the path at i, as the code reads it
   pub formed_at : (d : S.Path) (i : ℕ) → i < t.count → F.path_formed_of (get_or t.items i d) ≡ true
   formed_at d i h = ap F.path_formed_of (sym (get_or-take t.count t.items i d h)) ∙ all_at F.path_formed_of d (live t) i w.each (omega (arith, live_long))
+
+  pub live_formed : (d : S.Path) (i : ℕ) → i < length (live t) → F.path_formed_of (get_or (live t) i d) ≡ true
+  live_formed d i h = all_at F.path_formed_of d (live t) i w.each h
 
   pub path_at_lem : (d : S.Path) (i : ℕ) → i < t.count → path_view (get_or t.items i d) ≡ path_at i (view t)
   path_at_lem d i h =

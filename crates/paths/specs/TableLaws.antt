@@ -1,30 +1,33 @@
 -- All paths of a table: a search, a change of each in a loop, the least deadline, insertion.
-use Rattle.std.specs.Prelude.{ℕ, ◌+◌, ◌-◌, ◌≤◌, ◌<◌, min, ◌≡◌, refl, List, [], ◌∷◌, ◌++◌, map, Bool, true, false, not, cond, ◌&&◌, ◌||◌, leb, length, take, drop, set, get_or, replicate}
-use Rattle.std.proofs.Common.{sym, ap, ap₂, ◌∙◌, append-nil, arith, add-one, get_or-take, take-suc, take_all, drop_at, leb-true, leb-false}
+use Rattle.std.specs.Prelude.{Option as Optional, Some, None, ℕ, ◌+◌, ◌-◌, ◌<◌, min, ◌≡◌, refl, List, [], ◌∷◌, ◌++◌, map, Bool, true, false, not, cond, ◌&&◌, length, take, drop, set, get_or, replicate}
+use Rattle.std.specs.List.{position}
+use Rattle.std.proofs.Common.{sym, ap, ap₂, ◌∙◌, append-nil, arith, add-one, get_or-take, take-suc, take_all, drop_at}
 use Rattle.std.proofs.lemmas.List.{map-append, length-map, set-get_or}
 use Rattle.std.proofs.lemmas.Simd.{map-map}
 use Rattle.std.proofs.Math.Option.{Option, none, some}
 use Rattle.std.proofs.Math.ListN.{get_or-map}
-use Rattle.lists.specs.Defs.{first_with, somes, less, least, padded, over}
-use Rattle.lists.specs.Search.{first_hit, first_more, least_snoc}
+use Rattle.lists.specs.Defs.{optional, first_with, somes, less, least, padded, over}
+use Rattle.lists.specs.Search.{least_snoc}
 use Rattle.lists.specs.Held.{over_more, get_or_over}
 use Rattle.lists.specs.Maps.{somes_append}
 use Rattle.values.specs.Limits.{max_paths_limit}
 use Rattle.values.specs.Address.{same_pair}
-use Rattle.values.specs.Time.{deadline_of}
+use Rattle.values.specs.Time.{moved_of}
 use Rattle.values.specs.declared.address.FourTuple.{FourTuple}
-use Rattle.values.specs.declared.time.Deadline.{Deadline}
+use Rattle.values.specs.declared.time.Moment.{Moment}
 use Rattle.paths_rules.specs.State.{Path}
-use Rattle.paths_rules.specs.Path.{new_path_of, unlist, due}
-use Rattle.paths_rules.specs.Table.{path_at, with_paths, on_all, appended, replaced, timer}
+use Rattle.paths_rules.specs.Path.{new_path_of, unlist, in_use, due}
+use Rattle.paths_rules.specs.With.{with_ping}
+use Rattle.paths_rules.specs.Table.{path_at, with_paths, on_path, on_all, appended, replaced, ping_in_use_of, timer}
 use Rattle.paths_state.specs.Formed.{live}
 use Rattle.paths_state.specs.declared.state.Paths.{Paths}
 use Rattle.path.specs.Reading.{path_view, path_of}
+use Rattle.path.specs.ReadingLaws.{path_is}
 use Rattle.path.specs.Puts.{put_listed}
 use Rattle.path.specs.FieldLaws.{back, unlisted_is}
 use Rattle.paths.specs.Reading.{view, put_paths, paths_of}
-use Rattle.paths.specs.Lists.{first_map, first_padded, free_place}
-use Rattle.paths.specs.ReadingLaws.{Tidy, live_long, items_long, paths_long, put_is, formed_at, stored_of, pushed_of}
+use Rattle.paths.specs.Lists.{first_map, first_position}
+use Rattle.paths.specs.ReadingLaws.{Tidy, live_long, items_long, paths_long, put_is, formed_at, path_at_lem, stored_is, stored_of, pushed_of}
 use Rattle.paths_state.specs.declared.state.Path as S
 use Rattle.paths_state.specs.Formed as F
 
@@ -33,21 +36,9 @@ use Rattle.paths_state.specs.Formed as F
 abbrev pub passes : (Path → Bool) → S.Path → Bool
 passes p x = p (path_view x)
 
-module _ (t : Paths) (w : Tidy t) (p : Path → Bool) where
-  pub found_is : (d : S.Path) (i : ℕ) → i < t.count → first_with (passes p) (take i t.items) ≡ none → p (path_view (get_or t.items i d)) ≡ true → first_with p (view t).paths ≡ some i
-  found_is d i h e y = first_map path_view p (live t) ∙ first_hit (passes p) d t.items t.count i h (omega (arith, items_long t w, w.held.few)) e y
-
-  -- in all places at once: the zero paths past the last one do not pass
-  pub found_all : p (path_view F.zero_path) ≡ false → first_with p (view t).paths ≡ first_with (passes p) (take max_paths_limit t.items)
-  found_all z =
-      first_map path_view p (live t) ∙ sym (first_padded (passes p) max_paths_limit F.zero_path (live t) z)
-      ∙ ap (first_with (passes p)) (sym w.held.is ∙ sym (take_all max_paths_limit t.items (omega (arith, items_long t w))))
-
-  pub found_more : (d : S.Path) (i : ℕ) → i < t.count → first_with (passes p) (take i t.items) ≡ none → p (path_view (get_or t.items i d)) ≡ false → first_with (passes p) (take (i + 1) t.items) ≡ none
-  found_more d i h e n = first_more (passes p) d t.items i (omega (arith, items_long t w, w.held.few)) e n
-
-  pub found_none : (i : ℕ) → i ≡ t.count → first_with (passes p) (take i t.items) ≡ none → first_with p (view t).paths ≡ none
-  found_none i e q = first_map path_view p (live t) ∙ ap (λ (n : ℕ). first_with (passes p) (take n t.items)) (sym e) ∙ q
+-- the place that the search for it gives
+pub found_first : (t : Paths) (p : Path → Bool) (r : Optional ℕ) → r ≡ position (passes p) (live t) → r ≡ optional (first_with p (view t).paths)
+found_first t p r e = e ∙ sym (ap optional (first_map path_view p (live t)) ∙ first_position (passes p) (live t))
 
 -- ---- every path is changed
 
@@ -91,28 +82,34 @@ module _ (t : Paths) (w : Tidy t) (f : Path → Path) where
       q ∙ ap (λ (n : ℕ). put_paths (over (made f t) t.items n) t.count t) e
       ∙ put_is t (map f (view t).paths) (over (made f t) t.items t.count) t.count over_done (sym (length-map (view t).paths f ∙ paths_long t w))
 
--- a loop that goes over n paths: all, or none where the change is not to be made
-module _ (t : Paths) (ok : Bool) (w : ok ≡ true → Tidy t) (n : ℕ) (e : n ≡ cond ok t.count 0) where
-  pub few : n ≤ max_paths_limit
-  few = go ok w e
-    where
-      go : (b : Bool) → (b ≡ true → Tidy t) → n ≡ cond b t.count 0 → n ≤ max_paths_limit
-      go true k q = omega (arith, q, (k refl).held.few)
-      go false k q = omega (arith, q)
+-- ---- pings
 
-  pub running : (i : ℕ) → i < n → Tidy t × (i < t.count)
-  running i h = go ok w e
-    where
-      go : (b : Bool) → (b ≡ true → Tidy t) → n ≡ cond b t.count 0 → Tidy t × (i < t.count)
-      go true k q = (k refl, omega (arith, h, q))
-      go false k q = absurd (omega (arith, h, q))
+-- a ping is asked for
+abbrev put_ping : S.Path → S.Path
+put_ping x = record x { need_send_ping = true }
 
-  pub ran : (i : ℕ) (f : Path → Path) (u : Paths) → i ≡ n → Turned f t i u → u ≡ cond ok (paths_of (on_all f (view t))) t
-  ran i f u h g = go ok w e
-    where
-      go : (b : Bool) → (b ≡ true → Tidy t) → n ≡ cond b t.count 0 → u ≡ cond b (paths_of (on_all f (view t))) t
-      go true k q = each_done t (k refl) f i u (h ∙ q) g
-      go false k q = g ∙ ap (λ (m : ℕ). put_paths (over (made f t) t.items m) t.count t) (h ∙ q)
+ping_is : (x : S.Path) → F.path_formed_of x ≡ true → put_ping x ≡ path_of (with_ping true (path_view x))
+ping_is x w = sym (ap put_ping (path_is x w))
+
+-- of a path in use
+ping_used : (v : Path) (b : Bool) → in_use v ≡ b → path_of (cond b (with_ping true v) v) ≡ path_of (ping_in_use_of v)
+ping_used v b e = sym (ap (λ (d : Bool). path_of (cond d (with_ping true v) v)) e)
+
+module _ (t : Paths) (w : Tidy t) (d : S.Path) (i : ℕ) where
+  pub pinged_at : i < t.count → put_paths (set t.items i (put_ping (get_or t.items i d))) t.count t ≡ paths_of (on_path i (with_ping true) (view t))
+  pinged_at h =
+      stored_is t w i (put_ping (get_or t.items i d)) (with_ping true (path_at i (view t))) h
+      (ping_is (get_or t.items i d) (formed_at t w d i h) ∙ ap (λ (v : Path). path_of (with_ping true v)) (path_at_lem t w d i h))
+
+  module _ (u : Paths) (h : i < t.count) (q : Turned ping_in_use_of t i u) where
+    abbrev x : S.Path
+    x = get_or u.items i d
+
+    pub pinged_more : in_use (path_view x) ≡ true → Turned ping_in_use_of t (i + 1) (put_paths (set u.items i (put_ping x)) u.count u)
+    pinged_more e = each_more t w ping_in_use_of d i u h q (put_ping x) (ping_is x (each_formed t w ping_in_use_of d i u h q) ∙ ping_used (path_view x) true e)
+
+    pub pinged_stays : in_use (path_view x) ≡ false → Turned ping_in_use_of t (i + 1) u
+    pinged_stays e = each_stays t w ping_in_use_of d i u h q (sym (ping_used (path_view x) false e) ∙ path_is x (each_formed t w ping_in_use_of d i u h q))
 
 -- ---- the least deadline
 
@@ -120,52 +117,44 @@ abbrev pub join : Option ℕ → Option ℕ → Option ℕ
 join o none = o
 join o (some n) = less o n
 
-abbrev pub earlier_of : Deadline → Deadline → Deadline
-earlier_of a b = cond (not b.set || (a.set && leb a.at.us b.at.us)) a b
+-- the earlier of two moments, of which either may be missing
+abbrev pub earlier_of : Optional Moment → Optional Moment → Optional Moment
+earlier_of None b = b
+earlier_of (Some a) None = Some a
+earlier_of (Some a) (Some b) = Some (record { us = min a.us b.us })
 
-less_first : (m n : ℕ) → m ≤ n → m ≡ min m n
-less_first m n h = omega arith
-
-less_second : (m n : ℕ) → n < m → n ≡ min m n
-less_second m n h = omega arith
-
-pub earlier_is : (o p : Option ℕ) → earlier_of (deadline_of o) (deadline_of p) ≡ deadline_of (join o p)
+earlier_is : (o p : Option ℕ) → earlier_of (moved_of o) (moved_of p) ≡ moved_of (join o p)
 earlier_is none none = refl
-earlier_is (some m) none = refl
 earlier_is none (some n) = refl
-earlier_is (some m) (some n) = go (leb m n) refl
-  where
-    go : (b : Bool) → leb m n ≡ b → cond (leb m n) (deadline_of (some m)) (deadline_of (some n)) ≡ deadline_of (some (min m n))
-    go true e = ap (λ (b : Bool). cond b (deadline_of (some m)) (deadline_of (some n))) e ∙ ap (λ (k : ℕ). deadline_of (some k)) (less_first m n (leb-true m n e))
-    go false e = ap (λ (b : Bool). cond b (deadline_of (some m)) (deadline_of (some n))) e ∙ ap (λ (k : ℕ). deadline_of (some k)) (less_second m n (leb-false m n e))
+earlier_is (some m) none = refl
+earlier_is (some m) (some n) = refl
 
 join_one : (l : List (Option ℕ)) (o : Option ℕ) → least (somes (l ++ (o ∷ []))) ≡ join (least (somes l)) o
 join_one l none = ap least (somes_append l (none ∷ []) ∙ append-nil (somes l))
 join_one l (some n) = ap least (somes_append l (some n ∷ [])) ∙ least_snoc (somes l) n
 
 -- the least of the first i paths
-abbrev pub timer_to : ℕ → Paths → Option ℕ
-timer_to i t = timer (map path_view (take i t.items))
+abbrev pub timer_to : ℕ → List S.Path → Option ℕ
+timer_to i l = timer (map path_view (take i l))
 
-module _ (t : Paths) (w : Tidy t) where
-  pub timer_more : (d : S.Path) (i : ℕ) (best r : Deadline) (x : Deadline) → i < t.count → best ≡ deadline_of (timer_to i t) → x ≡ deadline_of (due (path_view (get_or t.items i d))) → r ≡ earlier_of best x
-      → r ≡ deadline_of (timer_to (i + 1) t)
-  timer_more d i best r x h e q g =
-      let y : S.Path = get_or t.items i d in
-      let l : List S.Path = take i t.items in
-      let k : take (i + 1) t.items ≡ l ++ (y ∷ []) = ap (λ (n : ℕ). take n t.items) (add-one i) ∙ take-suc t.items i d (omega (arith, items_long t w, w.held.few)) in
-      g ∙ ap₂ earlier_of e q ∙ earlier_is (timer_to i t) (due (path_view y))
-      ∙ ap deadline_of
+module _ (d : S.Path) (l : List S.Path) (i : ℕ) (h : i < length l) where
+  pub timer_more : (best x : Optional Moment) → best ≡ moved_of (timer_to i l) → x ≡ moved_of (due (path_view (get_or l i d))) → earlier_of best x ≡ moved_of (timer_to (i + 1) l)
+  timer_more best x e q =
+      let y : S.Path = get_or l i d in
+      let k : take (i + 1) l ≡ take i l ++ (y ∷ []) = ap (λ (n : ℕ). take n l) (add-one i) ∙ take-suc l i d h in
+      ap₂ earlier_of e q ∙ earlier_is (timer_to i l) (due (path_view y))
+      ∙ ap moved_of
       (sym
       (ap (λ (m : List S.Path). timer (map path_view m)) k
-      ∙ ap timer (map-append path_view l (y ∷ []))
-      ∙ ap (λ (m : List (Option ℕ)). least (somes m)) (map-append due (map path_view l) (path_view y ∷ []))
-      ∙ join_one (map due (map path_view l)) (due (path_view y))))
-
-  pub timer_done : (i : ℕ) (best : Deadline) → i ≡ t.count → best ≡ deadline_of (timer_to i t) → best ≡ deadline_of (timer (view t).paths)
-  timer_done i best e q = q ∙ ap (λ (n : ℕ). deadline_of (timer_to n t)) e
+      ∙ ap timer (map-append path_view (take i l) (y ∷ []))
+      ∙ ap (λ (m : List (Option ℕ)). least (somes m)) (map-append due (map path_view (take i l)) (path_view y ∷ []))
+      ∙ join_one (map due (map path_view (take i l))) (due (path_view y))))
 
 -- ---- insertion
+
+twice : (l a b : Bool) → ((l && a) && (l && b)) ≡ ((l && a) && b)
+twice true a b = refl
+twice false a b = refl
 
 -- both listings go
 abbrev pub unlist_both : FourTuple → FourTuple → Path → Path
@@ -173,24 +162,19 @@ unlist_both a b x = unlist b (unlist a x)
 
 -- one more path loses its listing, which is stored in place
 module _ (t : Paths) (w : Tidy t) (d : S.Path) (i : ℕ) (u : Paths) (h : i < t.count) where
-  abbrev x : S.Path
-  x = get_or u.items i d
+  abbrev at : S.Path
+  at = get_or u.items i d
 
-  pub unlisted_more : (a : FourTuple) → Turned (unlist a) t i u → (l : Bool) → l ≡ (unlist a (path_view x)).listed → Turned (unlist a) t (i + 1) (put_paths (set u.items i (put_listed l x)) u.count u)
-  unlisted_more a q l e = each_more t w (unlist a) d i u h q (put_listed l x) (unlisted_is x (each_formed t w (unlist a) d i u h q) a l e)
+  pub unlisted_more : (a : FourTuple) → Turned (unlist a) t i u → (l : Bool) → l ≡ (unlist a (path_view at)).listed → Turned (unlist a) t (i + 1) (put_paths (set u.items i (put_listed l at)) u.count u)
+  unlisted_more a q l e = each_more t w (unlist a) d i u h q (put_listed l at) (unlisted_is at (each_formed t w (unlist a) d i u h q) a l e)
 
-  pub both_more : (a b : FourTuple) → Turned (unlist_both a b) t i u → (p r : Bool) → p ≡ same_pair x.pair a → r ≡ same_pair x.pair b
-      → Turned (unlist_both a b) t (i + 1) (put_paths (set u.items i (put_listed (x.listed && not p && not r) x)) u.count u)
+  pub both_more : (a b : FourTuple) → Turned (unlist_both a b) t i u → (p r : Bool) → p ≡ (unlist a (path_view at)).listed → r ≡ (unlist b (path_view at)).listed
+      → Turned (unlist_both a b) t (i + 1) (put_paths (set u.items i (put_listed (p && r) at)) u.count u)
   both_more a b q p r e f =
-      each_more t w (unlist_both a b) d i u h q (put_listed (x.listed && not p && not r) x)
-      (ap₂ (λ (c g : Bool). put_listed (x.listed && not c && not g) x) e f ∙ ap (put_listed (x.listed && not (same_pair x.pair a) && not (same_pair x.pair b))) (back x (each_formed t w (unlist_both a b) d i u h q)))
-
--- the place after the paths is free, whatever was done to each of them
-pub free_at : (t : Paths) → Tidy t → (f : Path → Path) (u : Paths) → u ≡ paths_of (on_all f (view t)) → t.count < max_paths_limit → (d : S.Path) → get_or u.items t.count d ≡ F.zero_path
-free_at t w f u e h d =
-    let l = map path_of (map f (view t).paths) in
-    let n : length l ≡ t.count = length-map (map f (view t).paths) path_of ∙ length-map (view t).paths f ∙ paths_long t w in
-    ap (λ (v : Paths). get_or v.items t.count d) e ∙ ap (λ (k : ℕ). get_or (padded max_paths_limit F.zero_path l) k d) (sym n) ∙ free_place max_paths_limit F.zero_path d l (omega (arith, n, h))
+      each_more t w (unlist_both a b) d i u h q (put_listed (p && r) at)
+      (ap₂ (λ (c g : Bool). put_listed (c && g) at) e f
+      ∙ ap (λ (c : Bool). put_listed c at) (twice at.listed (not (same_pair at.pair a)) (not (same_pair at.pair b)))
+      ∙ ap (put_listed (at.listed && not (same_pair at.pair a) && not (same_pair at.pair b))) (back at (each_formed t w (unlist_both a b) d i u h q)))
 
 module _ (t : Paths) (w : Tidy t) (u : Paths) (a : FourTuple) (m : ℕ) (x : S.Path) (q : x ≡ path_of (new_path_of a m)) where
   pub appended_is : t.count < max_paths_limit → u ≡ paths_of (on_all (unlist a) (view t)) → put_paths (set u.items t.count x) (t.count + 1) u ≡ paths_of (appended a m (view t))

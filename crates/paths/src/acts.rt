@@ -1,62 +1,113 @@
 // The calls on one path, as what each leaves: a path and its place (`PathParts`), and the answer. A host that lends its state has that path stored in place and
-// nothing else copied. `look` tests the state; a call that is refused leaves the path that it finds.
-ghost use Rattle.std.specs.Prelude.{◌≡◌, cond, true, ltb};
+// nothing else copied. A call that is refused leaves the first path, as it stands.
+// `has_seq` and `seq` are an Option as C gives it.
+ghost use Rattle.std.specs.Prelude.{◌≡◌, cond, true, eqb, MatchResult};
+ghost use Rattle.std.specs.Result.{ForOk};
 ghost use Rattle.lists.specs.Defs.{given};
+ghost use Rattle.values.specs.Refusals.{number};
 ghost use Rattle.values.specs.Time.{moment_formed_of};
 ghost use Rattle.paths_state.specs.Formed.{seq_formed};
 ghost use Rattle.paths_rules.specs.Calls as C;
-ghost use Rattle.paths.specs.Reading.{done_call, popped_call, responded_call};
+ghost use Rattle.paths_rules.specs.Path as R;
+ghost use Rattle.path.specs.Reading.{path_of, path_view};
+ghost use Rattle.path.specs.SendLaws.{refusal};
+ghost use Rattle.paths.specs.Reading.{done_call, popped_call, responded_call, view};
 ghost use Rattle.paths.specs.Acts.{Puts, PutsPopped, PutsResponded};
+ghost use Rattle.paths.specs.ActLaws.{stands};
+ghost use Rattle.paths.specs.CallLaws.{excused_of};
+ghost use Rattle.paths.specs.Found.{Here, Missed, Unsent};
 
 use crate::answers::{PathParts, PoppedParts, RespondedAnswer, RespondedParts};
-use crate::steps;
-use paths_state::Paths;
-use values::refusals::{ACCEPTED, INTERNAL_ERROR, MALFORMED};
-use values::{Done, Moment, Numbered};
+use paths_state::{FormedPath, Path, Paths};
+use values::{Done, Moment, Numbered, Refusal};
 
-// 1: the state or an argument has not its form; 2: no path has the id.
-pub fn refusal(formed: bool, id: u64, count: u64) -> u8
-    ensures { result ≡ cond formed (cond (ltb id count) 0 2) 1 }
+// The path with the id.
+pub fn found(t: &Paths, id: u64) -> Result<FormedPath<'_>, Refusal>
+    ensures { MatchResult result (λ x. Here t.now true id x.path.now) (λ e. Missed t.now true id e) }
 {
-    if formed {
-        if id < count {
-            return ACCEPTED;
-        }
-        return INTERNAL_ERROR;
+    paths_state::checked(t)?.get(id)
+}
+
+// The same, where the other arguments have their forms.
+fn found_if(formed: bool, t: &Paths, id: u64) -> Result<FormedPath<'_>, Refusal>
+    ensures { MatchResult result (λ x. Here t.now formed id x.path.now) (λ e. Missed t.now formed id e) }
+{
+    values::form(formed)?;
+    paths_state::checked(t)?.get(id)
+}
+
+// A refusal; of an unknown id, where the call accepts one, the answer.
+pub fn excused<T: Drop>(e: Refusal, answer: T) -> Result<T, Refusal>
+    ensures { result ≡ excused_of e answer }
+{
+    match e {
+        Refusal::InternalError => Ok(answer),
+        _ => Err(e),
     }
-    MALFORMED
+}
+
+// What a call on one path leaves: `x` is changed, or why it is not.
+fn left<X, F: FnOnce(X) -> Path>(t: &Paths, id: u64, x: Result<X, Refusal>, change: F) -> PathParts
+    requires { ForOk x (F.pre change) }
+    ensures { MatchResult x (λ a. F.post change a result.path × (result.place ≡ id) × (result.answer ≡ record { refusal = 0 })) (λ e. result ≡ stands t.now (number e)) }
+{
+    match x {
+        Ok(x) => PathParts {
+            path: change(x),
+            place: id as usize,
+            answer: Done::from(Ok(())),
+        },
+        Err(e) => PathParts {
+            path: t.items[0],
+            place: 0,
+            answer: Done::from(Err(e)),
+        },
+    }
+}
+
+// The same, where the call accepts an unknown id: nothing changes then.
+fn left_or_excused<X, F: FnOnce(X) -> Path>(
+    t: &Paths,
+    id: u64,
+    x: Result<X, Refusal>,
+    change: F,
+) -> PathParts
+    requires { ForOk x (F.pre change) }
+    ensures { MatchResult x (λ a. F.post change a result.path × (result.place ≡ id) × (result.answer ≡ record { refusal = 0 })) (λ e. result ≡ stands t.now (cond (eqb (number e) 2) 0 (number e))) }
+{
+    match x {
+        Ok(x) => left(t, id, Ok(x), change),
+        Err(e) => PathParts {
+            path: t.items[0],
+            place: 0,
+            answer: Done::from(excused(e, ())),
+        },
+    }
 }
 
 // A challenge is asked for.
 pub fn initiate_path_chal_at(t: Paths, id: u64) -> PathParts
     ensures { Puts t result.path result.place result.answer (done_call t true (C.On id C.Initiate)) }
 {
-    let k = paths_state::look(t, id);
-    let n = refusal(k.formed, id, k.count);
-    let x = k.path;
-    let ok = n == ACCEPTED;
-    let y = path::initiated(x, ok);
-    PathParts {
-        path: y,
-        place: k.place,
-        answer: Done { refusal: n },
-    }
+    left(&t, id, found(&t, id), |x| path::initiated(x))
 }
 
 // A PATH_CHALLENGE frame came.
 pub fn on_path_chal_received_at(t: Paths, id: u64, data: u64) -> PathParts
     ensures { Puts t result.path result.place result.answer (done_call t true (C.On id (C.Receive «data»))) }
 {
-    let k = paths_state::look(t, id);
-    let n = refusal(k.formed, id, k.count);
-    let x = k.path;
-    let ok = n == ACCEPTED;
-    let y = path::received(x, ok, data);
-    let m = steps::excused(n);
-    PathParts {
-        path: y,
-        place: k.place,
-        answer: Done { refusal: m },
+    left_or_excused(&t, id, found(&t, id), |x| path::received(x, data))
+}
+
+// A server's credit, as the bytes that came raise it.
+#[tactic(auto, using(path::specs::ReadingLaws::path_is))]
+fn credited(t: &Paths, x: FormedPath<'_>, length: u64) -> Path
+    ensures { result ≡ path_of (C.effect (view t.now) (C.Credit length) (path_view x.entry.path.now)) }
+{
+    if t.is_server {
+        path::gained(x, t.anti_ampl_factor, length)
+    } else {
+        *x.path
     }
 }
 
@@ -64,16 +115,18 @@ pub fn on_path_chal_received_at(t: Paths, id: u64, data: u64) -> PathParts
 pub fn inc_anti_ampl_limit_at(t: Paths, id: u64, length: u64) -> PathParts
     ensures { Puts t result.path result.place result.answer (done_call t true (C.On id (C.Credit length))) }
 {
-    let k = paths_state::look(t, id);
-    let n = refusal(k.formed, id, k.count);
-    let x = k.path;
-    let ok = (n == ACCEPTED) & k.is_server;
-    let y = path::gained(x, ok, k.anti_ampl_factor, length);
-    let m = steps::excused(n);
-    PathParts {
-        path: y,
-        place: k.place,
-        answer: Done { refusal: m },
+    left_or_excused(&t, id, found(&t, id), |x| credited(&t, x, length))
+}
+
+// A server's credit, as the bytes that were sent lower it.
+#[tactic(auto, using(path::specs::ReadingLaws::path_is))]
+fn charged(t: &Paths, x: FormedPath<'_>, length: u64) -> Path
+    ensures { result ≡ path_of (C.effect (view t.now) (C.Charge length) (path_view x.entry.path.now)) }
+{
+    if t.is_server {
+        path::spent(x, length)
+    } else {
+        *x.path
     }
 }
 
@@ -81,121 +134,73 @@ pub fn inc_anti_ampl_limit_at(t: Paths, id: u64, length: u64) -> PathParts
 pub fn dec_anti_ampl_limit_at(t: Paths, id: u64, length: u64) -> PathParts
     ensures { Puts t result.path result.place result.answer (done_call t true (C.On id (C.Charge length))) }
 {
-    let k = paths_state::look(t, id);
-    let n = refusal(k.formed, id, k.count);
-    let x = k.path;
-    let ok = (n == ACCEPTED) & k.is_server;
-    let y = path::spent(x, ok, length);
-    let m = steps::excused(n);
-    PathParts {
-        path: y,
-        place: k.place,
-        answer: Done { refusal: m },
-    }
+    left_or_excused(&t, id, found(&t, id), |x| charged(&t, x, length))
 }
 
 // The source sequence that the path uses, or none: then it is 0.
 pub fn set_scid_seq_at(t: Paths, id: u64, has_seq: bool, seq: u64) -> PathParts
     ensures { Puts t result.path result.place result.answer (done_call t (seq_formed has_seq seq) (C.On id (C.SetScid (given has_seq seq)))) }
 {
-    let k = paths_state::look(t, id);
-    let f = has_seq | (seq == 0);
-    let n = refusal(k.formed & f, id, k.count);
-    let x = k.path;
-    let ok = n == ACCEPTED;
-    let y = path::with_scid(x, ok, has_seq, seq);
-    PathParts {
-        path: y,
-        place: k.place,
-        answer: Done { refusal: n },
-    }
+    let x = found_if(has_seq | (seq == 0), &t, id);
+    left(&t, id, x, |x| path::with_scid(x, has_seq.then_some(seq)))
 }
 
 // The destination sequence that the path uses, or none: then it is 0.
 pub fn set_dcid_seq_at(t: Paths, id: u64, has_seq: bool, seq: u64) -> PathParts
     ensures { Puts t result.path result.place result.answer (done_call t (seq_formed has_seq seq) (C.On id (C.SetDcid (given has_seq seq)))) }
 {
-    let k = paths_state::look(t, id);
-    let f = has_seq | (seq == 0);
-    let n = refusal(k.formed & f, id, k.count);
-    let x = k.path;
-    let ok = n == ACCEPTED;
-    let y = path::with_dcid(x, ok, has_seq, seq);
-    PathParts {
-        path: y,
-        place: k.place,
-        answer: Done { refusal: n },
-    }
+    let x = found_if(has_seq | (seq == 0), &t, id);
+    left(&t, id, x, |x| path::with_dcid(x, has_seq.then_some(seq)))
 }
 
 // The active flag.
 pub fn set_active_at(t: Paths, id: u64, on: bool) -> PathParts
     ensures { Puts t result.path result.place result.answer (done_call t true (C.On id (C.SetActive on))) }
 {
-    let k = paths_state::look(t, id);
-    let n = refusal(k.formed, id, k.count);
-    let x = k.path;
-    let ok = n == ACCEPTED;
-    let y = path::with_active(x, ok, on);
-    PathParts {
-        path: y,
-        place: k.place,
-        answer: Done { refusal: n },
-    }
+    left(&t, id, found(&t, id), |x| path::with_active(x, on))
 }
 
 // The peer's address is verified.
 pub fn mark_verified_at(t: Paths, id: u64) -> PathParts
     ensures { Puts t result.path result.place result.answer (done_call t true (C.On id C.Verify)) }
 {
-    let k = paths_state::look(t, id);
-    let n = refusal(k.formed, id, k.count);
-    let x = k.path;
-    let ok = n == ACCEPTED;
-    let y = path::verified(x, ok);
-    PathParts {
-        path: y,
-        place: k.place,
-        answer: Done { refusal: n },
-    }
+    left(&t, id, found(&t, id), |x| path::verified(x))
 }
 
 // The oldest challenge received is taken out: the answer is its data.
 pub fn pop_recv_chal_at(t: Paths, id: u64) -> PoppedParts
     ensures { PutsPopped t result.path result.place result.answer (popped_call t true (C.On id C.Pop)) }
 {
-    let k = paths_state::look(t, id);
-    let n = refusal(k.formed, id, k.count);
-    let x = k.path;
-    let ok = n == ACCEPTED;
-    let w = path::waiting_front(x, ok);
-    let y = path::popped(x, ok);
-    PoppedParts {
-        path: y,
-        place: k.place,
-        answer: Numbered {
-            refusal: n,
-            present: w.present,
-            number: w.data,
+    match found(&t, id) {
+        Ok(x) => PoppedParts {
+            path: path::popped(x),
+            place: id as usize,
+            answer: Numbered::from(Ok(path::waiting_front(x))),
+        },
+        Err(e) => PoppedParts {
+            path: t.items[0],
+            place: 0,
+            answer: Numbered::from(Err(e)),
         },
     }
+}
+
+// The path on which a challenge may be sent, and its deadline.
+fn sending(t: &Paths, id: u64, now: Moment) -> Result<(FormedPath<'_>, Moment), Refusal>
+    ensures { MatchResult result (λ a. Here t.now (moment_formed_of now.us) id a.0.path.now × (refusal now.us (path_view a.0.path.now) ≡ 0) × (a.1 ≡ record { us = R.loss_time now.us a.0.path.now.lost_chal })) (λ e. Unsent t.now (moment_formed_of now.us) id now.us e) }
+{
+    let x = found_if(values::moment_formed(now), t, id)?;
+    let deadline = path::sending(x, now)?;
+    Ok((x, deadline))
 }
 
 // A PATH_CHALLENGE frame was sent in a packet of that size.
 pub fn on_path_chal_sent_at(t: Paths, id: u64, data: u64, size: u64, sent: Moment) -> PathParts
     ensures { Puts t result.path result.place result.answer (done_call t (moment_formed_of sent.us) (C.On id (C.Send «data» size sent.us))) }
 {
-    let k = paths_state::look(t, id);
-    let f = values::moment_formed(sent);
-    let n = refusal(k.formed & f, id, k.count);
-    let x = k.path;
-    let m = path::send_refusal(x, n, sent);
-    let y = path::sent(x, m == ACCEPTED, data, size, sent);
-    PathParts {
-        path: y,
-        place: k.place,
-        answer: Done { refusal: m },
-    }
+    left(&t, id, sending(&t, id, sent), |(x, deadline)| {
+        path::sent(x, data, size, sent, deadline)
+    })
 }
 
 // A PATH_RESPONSE frame came: the answer is whether the path is now Validated, and a span for each challenge that it matched; by one that matches none, nothing
@@ -203,22 +208,19 @@ pub fn on_path_chal_sent_at(t: Paths, id: u64, data: u64, size: u64, sent: Momen
 pub fn on_path_resp_received_at(t: Paths, id: u64, data: u64, now: Moment) -> RespondedParts
     ensures { PutsResponded t result.path result.place result.answer (responded_call t (moment_formed_of now.us) (C.On id (C.Respond «data» now.us))) }
 {
-    let k = paths_state::look(t, id);
-    let f = values::moment_formed(now);
-    let n = refusal(k.formed & f, id, k.count);
-    let x = k.path;
-    let ok = n == ACCEPTED;
-    let z = path::answered(x, ok, data, now, k.is_multipath);
-    let y = z.path;
-    let s = z.spans;
-    let m = steps::excused(n);
-    RespondedParts {
-        path: y,
-        place: k.place,
-        answer: RespondedAnswer {
-            refusal: m,
-            yes: z.yes,
-            spans: s,
+    match found_if(values::moment_formed(now), &t, id) {
+        Ok(x) => {
+            let a = path::answered(x, data, now, t.is_multipath);
+            RespondedParts {
+                path: a.path,
+                place: id as usize,
+                answer: RespondedAnswer::from(Ok((a.yes, a.spans))),
+            }
+        }
+        Err(e) => RespondedParts {
+            path: t.items[0],
+            place: 0,
+            answer: RespondedAnswer::from(excused(e, (false, challenges::no_spans()))),
         },
     }
 }

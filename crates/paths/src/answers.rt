@@ -1,7 +1,14 @@
 // What the calls give beside the plain answers of `values`. An answer begins with the refusal's number, and on a refusal every other field is zero.
+ghost use Rattle.std.specs.Prelude.{◌≡◌, MatchResult};
+ghost use Rattle.values.specs.Refusals.{number};
+ghost use Rattle.paths_rules.specs.Path.{zero_path};
+ghost use Rattle.paths.specs.Reading.{found_at, path_answer_at};
+ghost use Rattle.paths.specs.Results.{address_result, responded_result};
+
 use challenges::Spans;
-use paths_state::{Path, Paths};
-use values::{Address, Counted, Done, Numbered};
+use paths_state::{FormedPath, Path, Paths};
+use values::refusals::ACCEPTED;
+use values::{Address, Counted, Done, Numbered, Refusal};
 
 // A whole path.
 #[repr(C)]
@@ -34,6 +41,84 @@ pub struct RespondedAnswer {
     pub refusal: u8,
     pub yes: bool,
     pub spans: Spans,
+}
+
+impl From<Result<FormedPath<'_>, Refusal>> for PathAnswer {
+    ghost from_gives = { λ r a. MatchResult r (λ x. a ≡ record { refusal = 0; path = x.path.now }) (λ e. a ≡ path_answer_at (number e) zero_path) };
+
+    fn from(r: Result<FormedPath<'_>, Refusal>) -> PathAnswer {
+        match r {
+            Ok(x) => PathAnswer {
+                refusal: ACCEPTED,
+                path: *x.path,
+            },
+            Err(e) => PathAnswer {
+                refusal: u8::from(e),
+                path: paths_state::no_path(),
+            },
+        }
+    }
+}
+
+impl From<Result<(u64, FormedPath<'_>), Refusal>> for FoundAnswer {
+    ghost from_gives = { λ r a. MatchResult r (λ x. a ≡ record { refusal = 0; id = x.0; path = x.1.path.now }) (λ e. a ≡ found_at (number e) 0 zero_path) };
+
+    fn from(r: Result<(u64, FormedPath<'_>), Refusal>) -> FoundAnswer {
+        match r {
+            Ok((id, x)) => FoundAnswer {
+                refusal: ACCEPTED,
+                id,
+                path: *x.path,
+            },
+            Err(e) => FoundAnswer {
+                refusal: u8::from(e),
+                id: 0,
+                path: paths_state::no_path(),
+            },
+        }
+    }
+}
+
+impl From<Result<Address, Refusal>> for AddressAnswer {
+    ghost from_gives = { λ r a. a ≡ address_result r };
+
+    fn from(r: Result<Address, Refusal>) -> AddressAnswer {
+        match r {
+            Ok(address) => AddressAnswer {
+                refusal: ACCEPTED,
+                address,
+            },
+            Err(e) => AddressAnswer {
+                refusal: u8::from(e),
+                address: Address {
+                    ip: [0; 16],
+                    flow: 0,
+                    scope: 0,
+                    port: 0,
+                    kind: 0,
+                },
+            },
+        }
+    }
+}
+
+impl From<Result<(bool, Spans), Refusal>> for RespondedAnswer {
+    ghost from_gives = { λ r a. a ≡ responded_result r };
+
+    fn from(r: Result<(bool, Spans), Refusal>) -> RespondedAnswer {
+        match r {
+            Ok((yes, spans)) => RespondedAnswer {
+                refusal: ACCEPTED,
+                yes,
+                spans,
+            },
+            Err(e) => RespondedAnswer {
+                refusal: u8::from(e),
+                yes: false,
+                spans: challenges::no_spans(),
+            },
+        }
+    }
 }
 
 // What a call that changes the state gives: the state first, which saves a lent caller a copy.

@@ -1,144 +1,123 @@
-// Changes of all paths, and the insertions and pings: one loop each, on the copy that the call gives back.
-ghost use Rattle.std.specs.Prelude.{◌≡◌, cond, true, ◌+◌, ◌<◌, ◌≤◌};
+// Changes of all paths, the insertions and the pings, in place: what is refused changes nothing.
+ghost use Rattle.std.specs.Prelude.{◌≡◌, true, ◌<◌};
 ghost use Rattle.lists.specs.Defs.{given};
+ghost use Rattle.values.specs.Address.{pair_formed_of};
 ghost use Rattle.values.specs.Limits.{max_paths_limit};
+ghost use Rattle.values.specs.Results.{counted_of, done_of};
+ghost use Rattle.values.specs.Time.{moment_formed_of};
 ghost use Rattle.paths_state.specs.Formed.{well_formed};
+ghost use Rattle.paths_rules.specs.Calls as C;
 ghost use Rattle.paths_rules.specs.Path as R;
 ghost use Rattle.paths_rules.specs.Table as T;
-ghost use Rattle.paths.specs.Reading.{done_of, inserted_at, inserted_of, paths_of, view};
-ghost use Rattle.paths.specs.ReadingLaws.{Tidy};
+ghost use Rattle.paths_rules.specs.With.{with_ping};
+ghost use Rattle.paths.specs.Reading.{done_call, inserted_call, optional_pair, paths_of, view};
 
-use crate::answers::{DoneOut, InsertedOut};
-use crate::{blanks, search};
-use paths_state::Paths;
-use values::refusals::{ACCEPTED, DONE, INTERNAL_ERROR, MALFORMED};
-use values::{FourTuple, Moment, Numbered};
+use crate::{search, steps};
+use paths_state::{FormedPath, Paths};
+use values::{FourTuple, Moment, Refusal};
 
-// A timeout on every path; with `ok` false nothing changes. Most paths are not overdue, and stay where they are.
-pub fn timed_out_all(t: Paths, ok: bool, now: Moment) -> Paths
-    requires { ok ≡ true → Tidy t }
-    ensures { result ≡ cond ok (paths_of (T.on_all (R.timeout now.us) (view t))) t }
+// A timeout on every path. Most paths are not overdue, and stay where they are.
+fn time_out_all(t: &mut Paths, now: Moment)
+    requires { well_formed t.old ≡ true }
+    ensures { t.new ≡ paths_of (T.on_all (R.timeout now.us) (view t.old)) }
 {
-    let mut u = t;
-    let count = paths_state::counted(ok, u.count);
-    let mut i: usize = 0;
-    while i < count {
-        let x = u.items[i];
+    for i in 0..t.count {
+        let x = FormedPath { path: &t.items[i] };
         if path::overdue(x, now) {
-            let y = path::timed_out(x, now);
-            u.items[i] = y;
+            t.items[i] = path::timed_out(x, now);
         }
-        i += 1;
     }
-    u
 }
 
-// A ping on every path in use.
-fn pinged_all(t: Paths) -> Paths
-    requires { Tidy t }
-    ensures { result ≡ paths_of (T.on_all T.ping_in_use_of (view t)) }
+pub fn time_out(t: &mut Paths, now: Moment) -> Result<(), Refusal>
+    ensures { record { paths = t.new; answer = done_of result } ≡ done_call t.old (moment_formed_of now.us) (C.Timeout now.us) }
 {
-    let mut u = t;
-    let count = u.count;
-    let mut i: usize = 0;
-    while i < count {
-        let x = u.items[i];
-        let y = path::ping_in_use(x);
-        u.items[i] = y;
-        i += 1;
-    }
-    u
+    values::form(values::moment_formed(now))?;
+    paths_state::checked(t)?;
+    time_out_all(t, now);
+    Ok(())
 }
 
 // Below the limit: the new path goes to the end, and takes over its pair's listing.
-pub fn appended(t: Paths, pair: FourTuple, max_datagram_size: u64) -> Paths
-    requires { Tidy t × (t.count < max_paths_limit) }
-    ensures { result ≡ paths_of (T.appended pair max_datagram_size (view t)) }
+fn append(t: &mut Paths, pair: FourTuple, max_datagram_size: u64)
+    requires formed { well_formed t.old ≡ true }
+    requires room { t.old.count < max_paths_limit }
+    ensures { t.new ≡ paths_of (T.appended pair max_datagram_size (view t.old)) }
 {
-    let mut u = t;
-    let count = u.count;
-    let mut i: usize = 0;
-    while i < count {
-        let x = u.items[i];
-        let listed = path::stays_listed(x, pair);
-        u.items[i].listed = listed;
-        i += 1;
+    for i in 0..t.count {
+        t.items[i].listed = path::stays_listed(&t.items[i], pair);
     }
-    let free = u.items[count];
-    let y = path::new_path_at(free, pair, max_datagram_size);
-    u.items[count] = y;
-    u.count = count + 1;
-    u
+    t.items[t.count] = path::new_path(pair, max_datagram_size);
+    t.count += 1;
 }
 
-// At the limit: the path at the id goes, with its pair's listing, and the new path stands there.
-fn replaced(t: Paths, id: u64, pair: FourTuple, max_datagram_size: u64) -> Paths
-    requires { Tidy t × (id < t.count) }
-    ensures { result ≡ paths_of (T.replaced id pair max_datagram_size (view t)) }
+// At the limit: the path at the place goes, with its pair's listing, and the new path stands there.
+fn replace(t: &mut Paths, place: usize, pair: FourTuple, max_datagram_size: u64)
+    requires formed { well_formed t.old ≡ true }
+    requires below { place < t.old.count }
+    ensures { t.new ≡ paths_of (T.replaced place pair max_datagram_size (view t.old)) }
 {
-    let mut u = t;
-    let at = id as usize;
-    let old = u.items[at];
-    let q = old.pair;
-    let count = u.count;
-    let mut i: usize = 0;
-    while i < count {
-        let x = u.items[i];
-        let p = x.pair;
-        let gone = values::pair_eq(p, q);
-        let same = values::pair_eq(p, pair);
-        u.items[i].listed = x.listed & !gone & !same;
-        i += 1;
+    let gone = t.items[place].pair;
+    for i in 0..t.count {
+        let x = &t.items[i];
+        t.items[i].listed = path::stays_listed(x, gone) & path::stays_listed(x, pair);
     }
-    let y = path::new_path(pair, max_datagram_size);
-    u.items[at] = y;
-    u
+    t.items[place] = path::new_path(pair, max_datagram_size);
 }
 
-// What is left of an insertion that is not below the limit: an unused path is replaced, or there is none. With `ok` false it is refused.
-pub fn insert_full(t: Paths, ok: bool, pair: FourTuple, max_datagram_size: u64) -> InsertedOut
-    requires { ok ≡ true → (well_formed t ≡ true) × (t.max_paths ≤ t.count) }
-    ensures { result ≡ cond ok (inserted_of (T.insert pair max_datagram_size (view t))) (inserted_at 1 0 t) }
+// A new path: its id. At the limit an unused path is replaced, or there is none.
+#[tactic(auto, using(crate::specs::CallLaws::by_form, crate::specs::Ways::insert_below, crate::specs::Ways::insert_evicts, crate::specs::Ways::insert_none))]
+pub fn insert(t: &mut Paths, pair: FourTuple, max_datagram_size: u64) -> Result<u64, Refusal>
+    ensures { record { paths = t.new; answer = counted_of result } ≡ inserted_call t.old (pair_formed_of pair) (C.Insert pair max_datagram_size) }
 {
-    if ok {
-        let f = search::first_unused(t);
-        if f.present {
-            let v = replaced(t, f.number, pair, max_datagram_size);
-            return blanks::inserted(v, ACCEPTED, f.number);
+    values::form(values::pair_formed(pair))?;
+    let formed = paths_state::checked(t)?;
+    let count = t.count as u64;
+    if count < t.max_paths {
+        append(t, pair, max_datagram_size);
+        return Ok(count);
+    }
+    let place = search::first_unused(formed).ok_or(Refusal::Done)?;
+    replace(t, place, pair, max_datagram_size);
+    Ok(place as u64)
+}
+
+fn ping_at(t: &mut Paths, place: usize)
+    requires formed { well_formed t.old ≡ true }
+    requires below { place < t.old.count }
+    ensures { t.new ≡ paths_of (T.on_path place (with_ping true) (view t.old)) }
+{
+    t.items[place].need_send_ping = true;
+}
+
+// A ping on every path in use.
+fn ping_all(t: &mut Paths)
+    requires { well_formed t.old ≡ true }
+    ensures { t.new ≡ paths_of (T.on_all T.ping_in_use_of (view t.old)) }
+{
+    for i in 0..t.count {
+        if path::in_use(&t.items[i]) {
+            t.items[i].need_send_ping = true;
         }
-        return blanks::inserted(t, DONE, 0);
     }
-    blanks::inserted(t, MALFORMED, 0)
 }
 
-// A ping on the path that was found; where none was, the refusal n.
-fn ping_found(t: Paths, f: Numbered, n: u8) -> DoneOut
-    requires { (well_formed t ≡ true) × (f.present ≡ true → f.number < t.count) }
-    ensures { result ≡ done_of (T.ping_at n (given f.present f.number) (view t)) }
+// A ping is asked for. With multipath on: of the path with the pair, where one is listed with it, or of every path in use. With multipath off: of the active path.
+#[tactic(auto, using(crate::specs::Ways::ping_none, crate::specs::Ways::ping_unlisted))]
+pub fn ping(t: &mut Paths, has_pair: bool, pair: FourTuple) -> Result<(), Refusal>
+    ensures { record { paths = t.new; answer = done_of result } ≡ done_call t.old (optional_pair has_pair pair) (C.Ping (given has_pair pair)) }
 {
-    if f.present {
-        let i = f.number as usize;
-        let mut u = t;
-        let x = u.items[i];
-        let y = path::pinged(x);
-        u.items[i] = y;
-        return blanks::done(u, ACCEPTED);
-    }
-    blanks::done(t, n)
-}
-
-pub fn ping_step(t: Paths, has_pair: bool, pair: FourTuple) -> DoneOut
-    requires { well_formed t ≡ true }
-    ensures { result ≡ done_of (T.ping (given has_pair pair) (view t)) }
-{
-    if t.is_multipath {
-        if has_pair {
-            let f = search::first_listed(t, pair);
-            return ping_found(t, f, ACCEPTED);
+    values::form(steps::pair_or_none(has_pair, pair))?;
+    let formed = paths_state::checked(t)?;
+    if !t.is_multipath {
+        let place = search::first_flagged(formed).ok_or(Refusal::InternalError)?;
+        ping_at(t, place);
+    } else if has_pair {
+        if let Some(place) = search::first_listed(formed, pair) {
+            ping_at(t, place);
         }
-        let u = pinged_all(t);
-        return blanks::done(u, ACCEPTED);
+    } else {
+        ping_all(t);
     }
-    let g = search::first_flagged(t);
-    ping_found(t, g, INTERNAL_ERROR)
+    Ok(())
 }

@@ -4,7 +4,6 @@
 
 mod acts;
 mod answers;
-mod blanks;
 mod calls;
 mod changes;
 mod search;

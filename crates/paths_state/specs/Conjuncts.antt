@@ -6,10 +6,10 @@ use Rattle.lists.specs.Defs.{all, every, nought, pairwise, past}
 use Rattle.lists.specs.Every.{all_and, all_same}
 use Rattle.values.specs.Limits.{max_path_chals_recv, max_path_chals_sent, max_paths_limit}
 use Rattle.values.specs.Address.{pair_formed_of}
-use Rattle.challenges.specs.Challenges.{standing}
+use Rattle.challenges.specs.Challenges.{is_zero as no_challenge, standing}
 use Rattle.paths_state.specs.declared.state.Path.{Path}
 use Rattle.paths_state.specs.declared.state.Paths.{Paths}
-use Rattle.paths_state.specs.Formed.{apart, live, lost_formed, no_challenge, no_path, path_formed_of, seq_formed, timed, well_formed}
+use Rattle.paths_state.specs.Formed.{apart, live, lost_formed, no_path, path_formed_of, seq_formed, timed, well_formed}
 
 -- ---- of one path
 

@@ -5,7 +5,7 @@ use Rattle.values.specs.Limits.{ip_len, max_lost, max_path_chals_recv, max_path_
 use Rattle.values.specs.Address.{pair_formed_of, same_pair, zero_pair}
 use Rattle.values.specs.Time.{moment_formed_of}
 use Rattle.values.specs.declared.address.Address.{Address}
-use Rattle.challenges.specs.Challenges.{received_of, sent_of, standing}
+use Rattle.challenges.specs.Challenges.{is_zero as no_challenge, received_of, sent_of, standing}
 use Rattle.challenges.specs.declared.received.Received.{Received}
 use Rattle.challenges.specs.declared.sent.Challenge.{Challenge}
 use Rattle.challenges.specs.declared.sent.Sent.{Sent}
@@ -42,9 +42,6 @@ zero_paths = record { items = replicate max_paths_limit zero_path; count = 0; ma
 
 abbrev pub no_address : Address → Bool
 no_address a = past nought ip_len 0 a.ip && nought a.flow && nought a.scope && nought a.port && nought a.kind
-
-abbrev pub no_challenge : Challenge → Bool
-no_challenge c = nought c.«data» && nought c.size && nought c.sent.us && nought c.deadline.us
 
 abbrev pub no_numbers : Path → Bool
 no_numbers x =

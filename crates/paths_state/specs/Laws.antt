@@ -1,63 +1,36 @@
 -- What the tests gather, and what a well-formed state has.
-use Rattle.std.specs.Prelude.{ℕ, zero, suc, ◌+◌, ◌-◌, ◌≤◌, ◌<◌, max, ◌≡◌, refl, List, [], ◌∷◌, Bool, true, false, not, cond, ◌&&◌, ◌||◌, eqb, leb, ltb, length, take, drop, get_or, replicate}
-use Rattle.std.proofs.Common.{sym, ap, ap₂, ◌∙◌, arith, drop_at, eq-eqb, eqb-true, le-leb, leb-false, leb-true, ltb-false, ltb-true}
-use Rattle.std.proofs.Math.Bool.{and_assoc, and-false, and-true}
-use Rattle.std.specs.Int.Bits.{bit_and, bit_or, or_add_and}
-use Rattle.std.proofs.lemmas.Nat.{and_le_l, and_le_r, or_lt}
-use Rattle.std.proofs.lemmas.Bool.{lt-leb, not-true}
+use Rattle.std.specs.Prelude.{ℕ, zero, suc, ◌-◌, ◌≤◌, ◌<◌, ◌≡◌, refl, List, [], ◌∷◌, Bool, true, false, not, ◌&&◌, ◌||◌, eqb, leb, length, take, drop, get_or, replicate}
+use Rattle.std.specs.List.{list_all}
+use Rattle.std.proofs.Common.{not-suc-le-zero, le_of_suc-le-suc, get_or-take, sym, ap, ap₂, ◌∙◌, arith, drop_at, eq-eqb, eqb-true, le-leb, leb-true}
+use Rattle.std.proofs.lemmas.Bool.{not-true}
 use Rattle.lists.specs.Defs.{all, nought, pairwise, past}
 use Rattle.lists.specs.Bools.{and_both, conj_each}
-use Rattle.lists.specs.Held.{Held, held_count, held_length}
-use Rattle.lists.specs.Tests.{all_done, all_more, nought_is, past_is, zero_or}
-use Rattle.values.specs.Limits.{ip_len, max_lost, max_moment, max_path_chals_recv, max_path_chals_sent, max_paths_limit}
+use Rattle.lists.specs.Held.{Held, get_or_in, held_count, held_length}
+use Rattle.lists.specs.Tests.{nought_is, past_is}
+use Rattle.values.specs.Limits.{ip_len, max_lost, max_path_chals_recv, max_path_chals_sent, max_paths_limit}
 use Rattle.values.specs.Address.{pair_formed_of, zero_address}
-use Rattle.values.specs.Time.{moment_formed_of}
 use Rattle.values.specs.declared.address.Address.{Address}
-use Rattle.challenges.specs.Challenges.{ReceivedWell, SentWell, standing, zero_challenge}
+use Rattle.challenges.specs.Challenges.{ReceivedWell, SentWell, is_zero as no_challenge, standing, zero_challenge}
 use Rattle.challenges.specs.declared.received.Received.{Received}
 use Rattle.challenges.specs.declared.sent.Challenge.{Challenge}
 use Rattle.challenges.specs.declared.sent.Sent.{Sent}
 use Rattle.paths_state.specs.declared.state.Path.{Path}
 use Rattle.paths_state.specs.declared.state.Paths.{Paths}
-use Rattle.paths_state.specs.Formed.{apart, bounded, live, lost_formed, no_address, no_challenge, no_marks, no_numbers, no_path, path_formed_of, received_formed_of, sent_formed_of, seq_formed, table_formed, timed, well_formed, zero_path}
+use Rattle.paths_state.specs.Formed.{apart, bounded, live, lost_formed, no_address, no_marks, no_numbers, no_path, path_formed_of, received_formed_of, sent_formed_of, seq_formed, table_formed, timed, well_formed, zero_path}
 
--- ---- challenges, gathered by or
+-- ---- tests of lists
 
-abbrev pub word_of : Challenge → ℕ
-word_of c = bit_or (bit_or c.«data» c.size) (bit_or c.sent.us c.deadline.us)
+-- as an iterator's `all` has it, and as the definitions have it
+pub all_is : {A : Type 0} (p : A → Bool) (l : List A) → list_all p l ≡ all p l
+all_is p [] = refl
+all_is p (x ∷ xs) = ap (λ (b : Bool). p x && b) (all_is p xs)
 
-pub word_none : (c : Challenge) → nought (word_of c) ≡ no_challenge c
-word_none c = simp zero_or (sym (and_assoc (nought c.«data» && nought c.size) (nought c.sent.us) (nought c.deadline.us)))
+pub all_at : {A : Type 0} (p : A → Bool) (d : A) (l : List A) (i : ℕ) → all p l ≡ true → i < length l → p (get_or l i d) ≡ true
+all_at p d [] i e h = absurd (not-suc-le-zero h)
+all_at p d (x ∷ l) zero e h = (and_both (p x) (all p l) e).0
+all_at p d (x ∷ l) (suc i) e h = all_at p d l i (and_both (p x) (all p l) e).1 (le_of_suc-le-suc h)
 
-pub word_more : (d : Challenge) (l : List Challenge) (i acc : ℕ) → i < length l
-    → (nought acc && all no_challenge (drop i l)) ≡ (nought (bit_or acc (word_of (get_or l i d))) && all no_challenge (drop (i + 1) l))
-word_more d l i acc h =
-    let x = get_or l i d in
-    all_more no_challenge d l i (nought acc) h
-    ∙ ap (λ (b : Bool). b && all no_challenge (drop (i + 1) l)) (sym (zero_or acc (word_of x) ∙ ap (λ (b : Bool). nought acc && b) (word_none x)))
-
--- ---- the moments of all challenges, gathered by or
-
-or_low : (a b : ℕ) → moment_formed_of (bit_or a b) ≡ (moment_formed_of a && moment_formed_of b)
-or_low a b = go (moment_formed_of a) (moment_formed_of b) refl refl
-  where
-    s : bit_or a b + bit_and a b ≡ a + b
-    s = or_add_and a b
-
-    go : (x y : Bool) → moment_formed_of a ≡ x → moment_formed_of b ≡ y → moment_formed_of (bit_or a b) ≡ (moment_formed_of a && moment_formed_of b)
-    go true true p q =
-        let h = or_lt 63 a b (omega (arith, leb-true a max_moment p)) (omega (arith, leb-true b max_moment q)) in
-        le-leb (bit_or a b) max_moment (omega (arith, h)) ∙ sym (ap₂ ◌&&◌ p q)
-    go false y p q = lt-leb (bit_or a b) max_moment (omega (arith, s, and_le_r a b, leb-false a max_moment p)) ∙ sym (ap (λ (t : Bool). t && moment_formed_of b) p)
-    go true false p q = lt-leb (bit_or a b) max_moment (omega (arith, s, and_le_l a b, leb-false b max_moment q)) ∙ sym (ap₂ ◌&&◌ p q)
-
-pub late_more : (d : Challenge) (l : List Challenge) (i late : ℕ) → i < length l
-    → (moment_formed_of late && all timed (drop i l)) ≡ (moment_formed_of (bit_or late (bit_or (get_or l i d).sent.us (get_or l i d).deadline.us)) && all timed (drop (i + 1) l))
-late_more d l i late h =
-    let x = get_or l i d in
-    all_more timed d l i (moment_formed_of late) h
-    ∙ ap (λ (b : Bool). b && all timed (drop (i + 1) l))
-    (sym (or_low late (bit_or x.sent.us x.deadline.us) ∙ ap (λ (b : Bool). moment_formed_of late && b) (or_low x.sent.us x.deadline.us)))
+-- ---- what is zero in every field is the zero value
 
 pub challenge_is : (c : Challenge) → no_challenge c ≡ true → c ≡ zero_challenge
 challenge_is c e =
@@ -67,66 +40,6 @@ challenge_is c e =
     let sent = nought_is c.sent.us w.1.1.0 in
     let deadline = nought_is c.deadline.us w.1.1.1.0 in
     λ i. record { «data» = d i; size = size i; sent = record { us = sent i }; deadline = record { us = deadline i } }
-
--- what is zero has moments of their form
-zero_timed : (c : Challenge) → no_challenge c ≡ true → timed c ≡ true
-zero_timed c e = ap timed (challenge_is c e)
-
-zeros_timed : (l : List Challenge) → all no_challenge l ≡ true → all timed l ≡ true
-zeros_timed [] e = refl
-zeros_timed (c ∷ cs) e =
-    let w = and_both (no_challenge c) (all no_challenge cs) e in
-    ap₂ ◌&&◌ (zero_timed c w.0) (zeros_timed cs w.1)
-
--- so all places may be tested for those that stand
-pub all_timed : (l : List Challenge) (n : ℕ) → (all timed l && all no_challenge (drop n l)) ≡ (all timed (take n l) && all no_challenge (drop n l))
-all_timed l zero = go (all no_challenge l) refl
-  where
-    go : (b : Bool) → all no_challenge l ≡ b → (all timed l && all no_challenge l) ≡ all no_challenge l
-    go true t = ap (λ (b : Bool). b && all no_challenge l) (zeros_timed l t)
-    go false t = ap (λ (b : Bool). all timed l && b) t ∙ and-false (all timed l) ∙ sym t
-all_timed [] (suc n) = refl
-all_timed (c ∷ cs) (suc n) =
-    and_assoc (timed c) (all timed cs) (all no_challenge (drop n cs))
-    ∙ ap (λ (b : Bool). timed c && b) (all_timed cs n)
-    ∙ sym (and_assoc (timed c) (all timed (take n cs)) (all no_challenge (drop n cs)))
-
--- ---- the places past the count, gathered by or
-
--- the word of an element is 0 exactly if the element passes
-module _ {A : Type 0} (p : A → Bool) (word : A → ℕ) (is : (x : A) → nought (word x) ≡ p x) (d : A) (l : List A) (n i tail : ℕ) where
-  pub tail_more : (v : ℕ) → i < length l → v ≡ cond (ltb i n) 0 (word (get_or l i d))
-      → (nought tail && all p (drop (max n i) l)) ≡ (nought (bit_or tail v) && all p (drop (max n (i + 1)) l))
-  tail_more v h e = go (ltb i n) refl
-    where
-      x : A
-      x = get_or l i d
-
-      go : (b : Bool) → ltb i n ≡ b → (nought tail && all p (drop (max n i) l)) ≡ (nought (bit_or tail v) && all p (drop (max n (i + 1)) l))
-      go true t =
-          let k = ltb-true i n t in
-          let a : max n i ≡ n = omega arith in
-          let b : max n (i + 1) ≡ n = omega arith in
-          let z : v ≡ 0 = e ∙ ap (λ (f : Bool). cond f 0 (word x)) t in
-          ap₂ (λ (f : Bool) (m : ℕ). f && all p (drop m l))
-          (sym (zero_or tail v ∙ ap (λ (m : ℕ). nought tail && nought m) z ∙ and-true (nought tail)))
-          (a ∙ sym b)
-      go false t =
-          let k = ltb-false i n t in
-          let a : max n i ≡ i = omega arith in
-          let b : max n (i + 1) ≡ i + 1 = omega arith in
-          let z : v ≡ word x = e ∙ ap (λ (f : Bool). cond f 0 (word x)) t in
-          ap (λ (m : ℕ). nought tail && all p (drop m l)) a
-          ∙ all_more p d l i (nought tail) h
-          ∙ ap₂ (λ (f : Bool) (m : ℕ). f && all p (drop m l))
-          (sym (zero_or tail v ∙ ap (λ (m : ℕ). nought tail && nought m) z ∙ ap (λ (f : Bool). nought tail && f) (is x)))
-          (sym b)
-
--- nothing is left
-pub tail_done : {A : Type 0} (p : A → Bool) (l : List A) (n i tail : ℕ) → length l ≤ i → (nought tail && all p (drop (max n i) l)) ≡ nought tail
-tail_done p l n i tail h = all_done p l (max n i) (nought tail) (omega arith)
-
--- ---- what is zero in every field is the zero value
 
 zeros_is : (n : ℕ) (l : List ℕ) → past nought n 0 l ≡ true → l ≡ replicate n 0
 zeros_is n l e = let q : n - 0 ≡ n = omega arith in past_is nought 0 nought_is n 0 l (omega arith) e ∙ ap (λ (m : ℕ). replicate m 0) q
@@ -299,6 +212,16 @@ facts t e =
     let v = conj_each (all path_formed_of (live t)) (pairwise apart (live t) ∷ past no_path max_paths_limit t.count t.items ∷ []) w.1 in
     let few : t.count ≤ max_paths_limit = omega (arith, b.few, b.limit_most) in
     record { bounds = b; each = v.0; distinct = v.1.0; held = record { few = few; is = past_is no_path zero_path zero_path_is max_paths_limit t.count t.items few v.1.1.0 } }
+
+-- each path of a well-formed state has its form
+pub path_well : (t : Paths) → well_formed t ≡ true → (d : Path) (i : ℕ) → i < t.count → path_formed_of (get_or t.items i d) ≡ true
+path_well t e d i h =
+    let w = facts t e in
+    ap path_formed_of (sym (get_or-take t.count t.items i d h)) ∙ all_at path_formed_of d (live t) i w.each (omega (arith, held_count w.held))
+
+-- within the array the default does not matter
+pub path_in : (t : Paths) → well_formed t ≡ true → (d e : Path) (i : ℕ) → i < t.count → get_or t.items i d ≡ get_or t.items i e
+path_in t w d e i h = let f = facts t w in get_or_in t.items i d e (omega (arith, h, f.held.few, held_length f.held))
 
 -- ---- and what has these facts is well formed
 

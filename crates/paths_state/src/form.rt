@@ -1,78 +1,60 @@
 // The form of one path: docs/RULES.md, "Well-formed paths", 3 to 8; and 9 of two of them.
-ghost use Rattle.std.specs.Prelude.{◌≡◌, cond, ltb};
-ghost use Rattle.paths_state.specs.Formed.{apart, path_formed_of, received_formed_of, sent_formed_of};
+ghost use Rattle.std.specs.Prelude.{◌≡◌};
+ghost use Rattle.lists.specs.Defs.{all};
+ghost use Rattle.values.specs.Address as A;
+ghost use Rattle.paths_state.specs.Formed as F;
 
 use crate::state::Path;
-use challenges::{Received, Sent};
-use values::limits::{MAX_LOST, MAX_MOMENT, MAX_PATH_CHALS_RECV, MAX_PATH_CHALS_SENT};
+use challenges::{Challenge, Received, Sent};
+use values::FourTuple;
+use values::limits::{MAX_LOST, MAX_PATH_CHALS_RECV, MAX_PATH_CHALS_SENT};
 
-// What counts of the place i: nothing below the count, and past it the word, which must be 0.
-fn past_count(i: usize, count: usize, word: u64) -> u64
-    ensures { result ≡ cond (ltb i count) 0 word }
+// At most 8 challenges received, and zeros past them.
+fn received_formed(q: &Received) -> bool
+    ensures { result ≡ F.received_formed_of q.now }
 {
-    if i < count { 0 } else { word }
+    (q.count <= MAX_PATH_CHALS_RECV) && values::all_nothing(&q.items[q.count..])
 }
 
-// At most 8 challenges received, and zeros past them. Here and below the loop has a fixed count and gathers by or: it is unrolled without a branch, and nothing
-// is copied.
-fn received_formed(q: Received) -> bool
-    ensures { result ≡ received_formed_of q }
+// The moment when each was sent, and its deadline.
+fn all_timed(challenges: &[Challenge]) -> bool
+    ensures { result ≡ all F.timed challenges.now }
 {
-    let count = q.count;
-    let mut tail: u64 = 0;
-    let mut i: usize = 0;
-    while i < MAX_PATH_CHALS_RECV {
-        let w = q.items[i];
-        let v = past_count(i, count, w);
-        tail = tail | v;
-        i += 1;
-    }
-    (count <= MAX_PATH_CHALS_RECV) & (tail == 0)
+    challenges.iter().all(|c| values::moment_formed(c.sent) & values::moment_formed(c.deadline))
 }
 
-// At most 16 challenges sent, each with moments of their form, and zeros past them. The moments of all places may be gathered, since those past the count
-// must be 0.
-fn sent_formed(s: Sent) -> bool
-    ensures { result ≡ sent_formed_of s }
+// At most 16 challenges sent, each with moments of their form, and zeros past them.
+fn sent_formed(s: &Sent) -> bool
+    ensures { result ≡ F.sent_formed_of s.now }
 {
-    let count = s.count;
-    let mut tail: u64 = 0;
-    let mut late: u64 = 0;
-    let mut i: usize = 0;
-    while i < MAX_PATH_CHALS_SENT {
-        let x = s.items[i];
-        let m = values::moment_bits(x.sent, x.deadline);
-        let w = x.data | x.size | m;
-        let v = past_count(i, count, w);
-        tail = tail | v;
-        late = late | m;
-        i += 1;
-    }
-    (count <= MAX_PATH_CHALS_SENT) & ((late <= MAX_MOMENT) & (tail == 0))
+    (s.count <= MAX_PATH_CHALS_SENT)
+        && all_timed(s.standing())
+        && values::all_nothing(&s.items[s.count..])
 }
 
-pub fn path_formed(x: Path) -> bool
-    ensures { result ≡ path_formed_of x }
+pub fn path_formed(x: &Path) -> bool
+    ensures { result ≡ F.path_formed_of x.now }
 {
-    let pair = x.pair;
-    let received = x.recv_chals;
-    let sent = x.sent_chals;
-    let p = values::pair_formed(pair);
-    let q = received_formed(received);
-    let s = sent_formed(sent);
-    let lost = (x.lost_chal <= MAX_LOST) & ((x.lost_chal != MAX_LOST) | (sent.count == 0));
-    p & (x.has_scid | (x.scid_seq == 0)) & (x.has_dcid | (x.dcid_seq == 0)) & q & s & lost
+    let lost = (x.lost_chal <= MAX_LOST) & ((x.lost_chal != MAX_LOST) | (x.sent_chals.count == 0));
+    values::pair_formed(x.pair)
+        & (x.has_scid | (x.scid_seq == 0))
+        & (x.has_dcid | (x.dcid_seq == 0))
+        & received_formed(&x.recv_chals)
+        & sent_formed(&x.sent_chals)
+        & lost
 }
 
-// Not both are listed with the same pair. The remote ports come first: among the pairs of a connection they are what differs most often.
-pub fn differ(x: Path, y: Path) -> bool
-    ensures { result ≡ apart x y }
+// The remote ports come first: among the pairs of a connection they are what differs most often.
+pub fn same_pair(a: &FourTuple, b: &FourTuple) -> bool
+    ensures { result ≡ A.same_pair a.now b.now }
 {
-    let a = x.pair;
-    let b = y.pair;
-    if a.remote.port != b.remote.port {
-        return true;
-    }
-    let same = values::pair_eq(a, b);
+    (a.remote.port == b.remote.port) && (a == b)
+}
+
+// Not both are listed with the same pair.
+pub fn differ(x: &Path, y: &Path) -> bool
+    ensures { result ≡ F.apart x.now y.now }
+{
+    let same = same_pair(&x.pair, &y.pair);
     !(x.listed & y.listed & same)
 }

@@ -6,6 +6,7 @@ mod state;
 mod test;
 mod zeros;
 
-pub use state::{Look, Path, Paths, no_path, no_paths};
-pub use test::{counted, formed, look};
+pub use form::same_pair;
+pub use state::{Path, Paths, no_path, no_paths};
+pub use test::{FormedPath, FormedPaths, checked, formed};
 pub use zeros::zero_address;

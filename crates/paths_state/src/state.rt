@@ -3,8 +3,10 @@ ghost use Rattle.std.specs.Prelude.{◌≡◌};
 ghost use Rattle.paths_state.specs.Formed.{zero_path, zero_paths};
 
 use challenges::{Received, Sent};
+use values::limits::{IP_LEN, PATH_SLOTS};
 use values::{Address, FourTuple};
 
+// `has_scid` and `scid_seq`, `has_dcid` and `dcid_seq` are Options as C sees them, and `state` is the rank of path's PathState: a host may lend any number.
 // `listed`: the path is the one that its pair names, as in the Rust's map from pairs to ids. The wide fields come first and the flags last, so that the
 // compiler can test several at a time.
 #[repr(C)]
@@ -41,40 +43,23 @@ pub struct Paths {
     pub is_server: bool,
 }
 
-// What the test of a state gives: whether it is well formed, and what a call on one path needs of it. `path` stands at `place`, which is the id asked for where
-// a path has it.
-#[derive(Clone, Copy)]
-pub struct Look {
-    pub path: Path,
-    pub place: usize,
-    pub count: u64,
-    pub max_paths: u64,
-    pub anti_ampl_factor: u64,
-    pub is_multipath: bool,
-    pub is_server: bool,
-    pub formed: bool,
-}
-
 pub fn no_path() -> Path
     ensures { result ≡ zero_path }
 {
     let nowhere = Address {
-        ip: [0; 16],
+        ip: [0; IP_LEN],
         flow: 0,
         scope: 0,
         port: 0,
         kind: 0,
     };
-    let pair = FourTuple {
-        local: nowhere,
-        remote: nowhere,
-    };
-    let received = challenges::no_received();
-    let sent = challenges::no_sent();
     Path {
-        pair: pair,
-        recv_chals: received,
-        sent_chals: sent,
+        pair: FourTuple {
+            local: nowhere,
+            remote: nowhere,
+        },
+        recv_chals: challenges::no_received(),
+        sent_chals: challenges::no_sent(),
         max_datagram_size: 0,
         scid_seq: 0,
         dcid_seq: 0,
@@ -97,9 +82,8 @@ pub fn no_path() -> Path
 pub fn no_paths() -> Paths
     ensures { result ≡ zero_paths }
 {
-    let zero = no_path();
     Paths {
-        items: [zero; 8],
+        items: [no_path(); PATH_SLOTS],
         count: 0,
         max_paths: 0,
         anti_ampl_factor: 0,

@@ -1,75 +1,80 @@
-// The test of the whole state. One function has every loop over the paths and gives the path that a call asks for, so that the array is copied once.
-ghost use Rattle.std.specs.Prelude.{◌≡◌, cond, ltb};
-ghost use Rattle.paths_state.specs.Formed.{well_formed};
-ghost use Rattle.paths_state.specs.Look.{Seen};
+// The test of the whole state, and what has passed it.
+ghost use Rattle.std.specs.Prelude.{◌≡◌, ◌<◌, ◌≤◌, get_or, true, false, MatchResult};
+ghost use Rattle.lists.specs.Defs.{all, pairwise};
+ghost use Rattle.paths_state.specs.Formed.{apart, bounded, path_formed_of, well_formed, zero_path};
 
-use crate::state::{Look, Paths};
+use crate::state::{Path, Paths};
 use crate::{form, zeros};
-use values::limits::{MAX_PATHS, PATH_SLOTS};
+use values::Refusal;
+use values::limits::MAX_PATHS;
 
-// The count of the paths to go over: none where they are not to be gone over.
-pub fn counted(b: bool, count: usize) -> usize
-    ensures { result ≡ cond b count 0 }
-{
-    if b { count } else { 0 }
+// A state that is well formed.
+#[derive(Clone, Copy)]
+pub struct FormedPaths<'a> {
+    pub paths: &'a Paths,
+    pub ghost well: { well_formed paths.now ≡ true },
 }
 
-// The id's place, or the first.
-fn place(id: u64, count: usize) -> usize
-    ensures { result ≡ cond (ltb id count) id 0 }
-{
-    let n = count as u64;
-    if id < n { id as usize } else { 0 }
+// One of its paths.
+#[derive(Clone, Copy)]
+pub struct FormedPath<'a> {
+    pub path: &'a Path,
+    pub ghost well: { path_formed_of path.now ≡ true },
 }
 
-pub fn look(t: Paths, id: u64) -> Look
-    ensures { Seen t id result }
+// From 1 to the limit, which is from 1 to 8.
+fn within(t: &Paths) -> bool
+    ensures { result ≡ bounded t.now.max_paths t.now.count }
 {
-    let wide = t.count as u64;
-    let b = (1 <= t.max_paths) & (t.max_paths <= MAX_PATHS) & (1 <= wide) & (wide <= t.max_paths);
-    let count = counted(b, t.count);
-    let at = place(id, count);
-    let mut ok = true;
-    let mut far = true;
-    let mut i: usize = 0;
-    while i < count {
-        let x = t.items[i];
-        let z = form::path_formed(x);
-        ok = ok & z;
-        let n = i + 1;
-        let mut k: usize = n;
-        while k < count {
-            let y = t.items[k];
-            let w = form::differ(x, y);
-            far = far & w;
-            k += 1;
+    let count = t.count as u64;
+    (1 <= t.max_paths) & (t.max_paths <= MAX_PATHS) & (1 <= count) & (count <= t.max_paths)
+}
+
+fn differs_from(x: &Path, others: &[Path]) -> bool
+    ensures { result ≡ all (apart x.now) others.now }
+{
+    others.iter().all(|y| form::differ(x, y))
+}
+
+// Any two of them differ.
+fn all_differ(paths: &[Path]) -> bool
+    ensures { result ≡ pairwise apart paths.now }
+{
+    for (i, x) in paths.iter().enumerate() {
+        if !differs_from(x, &paths[i + 1..]) {
+            return false;
         }
-        i = n;
     }
-    let mut none = true;
-    let mut j: usize = count;
-    while j < PATH_SLOTS {
-        let v = t.items[j];
-        let z = zeros::zero_path(v);
-        none = none & z;
-        j += 1;
-    }
-    let found = t.items[at];
-    Look {
-        path: found,
-        place: at,
-        count: wide,
-        max_paths: t.max_paths,
-        anti_ampl_factor: t.anti_ampl_factor,
-        is_multipath: t.is_multipath,
-        is_server: t.is_server,
-        formed: b & (ok & far & none),
-    }
+    true
 }
 
-pub fn formed(t: Paths) -> bool
-    ensures { result ≡ well_formed t }
+pub fn formed(t: &Paths) -> bool
+    ensures { result ≡ well_formed t.now }
 {
-    let k = look(t, 0);
-    k.formed
+    if !within(t) {
+        return false;
+    }
+    let (paths, free) = t.items.split_at(t.count);
+    paths.iter().all(form::path_formed) & all_differ(paths) & free.iter().all(zeros::zero_path)
+}
+
+pub fn checked(paths: &Paths) -> Result<FormedPaths<'_>, Refusal>
+    ensures { MatchResult result (λ f. (f.paths.now ≡ paths.now) × (well_formed paths.now ≡ true)) (λ e. (e ≡ Refusal.Malformed) × (well_formed paths.now ≡ false)) }
+{
+    values::form(formed(paths))?;
+    Ok(FormedPaths { paths })
+}
+
+impl<'a> FormedPaths<'a> {
+    // The path with the id; InternalError where none has it.
+    pub fn get(self, id: u64) -> Result<FormedPath<'a>, Refusal>
+        ensures { MatchResult result (λ f. (f.path.now ≡ get_or self.entry.paths.now.items id zero_path) × (id < self.entry.paths.now.count)) (λ e. (e ≡ Refusal.InternalError) × (self.entry.paths.now.count ≤ id)) }
+    {
+        if self.paths.count as u64 <= id {
+            return Err(Refusal::InternalError);
+        }
+        Ok(FormedPath {
+            path: &self.paths.items[id as usize],
+        })
+    }
 }

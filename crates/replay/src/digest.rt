@@ -1,32 +1,42 @@
 // The digest of docs/TRACES.md: every field of a state in its declared order, a word at a time.
 use timers::TimerTable;
 
-pub fn mix(h: u64, w: u64) -> u64 {
-    let a = h ^ w;
-    let b = std::num::wrapping_add_u64(a, a << 10);
-    let c = b ^ (b >> 6);
-    let d = std::num::wrapping_add_u64(c, c << 3);
-    d ^ (d >> 11)
-}
+#[derive(Clone, Copy)]
+pub struct Digest(u64);
 
-pub fn wide(b: u8) -> u64 {
-    b as u64
-}
-
-pub fn mix_flag(h: u64, b: bool) -> u64 {
-    if b {
-        return mix(h, 1);
+impl Digest {
+    pub fn new() -> Digest {
+        Digest(0)
     }
-    mix(h, 0)
+
+    pub fn value(self) -> u64 {
+        self.0
+    }
+
+    pub fn word(&mut self, w: u64) {
+        let a = self.0 ^ w;
+        let b = a.wrapping_add(a << 10);
+        let c = b ^ (b >> 6);
+        let d = c.wrapping_add(c << 3);
+        self.0 = d ^ (d >> 11);
+    }
+
+    pub fn flag(&mut self, b: bool) {
+        self.word(u64::from(b));
+    }
+
+    pub fn bytes(&mut self, bytes: &[u8]) {
+        for b in bytes {
+            self.word(u64::from(*b));
+        }
+    }
 }
 
-pub fn of_timers(t: TimerTable) -> u64 {
-    let mut h: u64 = 0;
-    let mut i: usize = 0;
-    while i < 9 {
-        let d = t.expires[i];
-        h = mix_flag(mix(h, d.at.us), d.set);
-        i += 1;
+pub fn of_timers(t: &TimerTable) -> u64 {
+    let mut h = Digest::new();
+    for d in &t.expires {
+        h.word(d.at.us);
+        h.flag(d.set);
     }
-    h
+    h.value()
 }

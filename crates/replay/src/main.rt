@@ -2,7 +2,7 @@
 // records by the Rust, and the two outputs are compared byte for byte.
 #![tactic(auto)]
 
-ghost use Rattle.std.specs.Prelude.{◌≡◌, ◌≤◌, IfOk, length};
+ghost use Rattle.std.specs.Prelude.{◌≡◌, ◌≤◌, length};
 
 mod answers;
 mod digest;
@@ -23,15 +23,16 @@ use paths_state::Paths;
 use record::Record;
 use std::io;
 use std::io::Read;
+use text::Page;
 use timers::TimerTable;
+use values::{ConnectionId, Token};
 
-// The states that the calls work on, and the place after what is written.
+// The states that the calls work on.
 #[derive(Clone, Copy)]
 struct States {
     timers: TimerTable,
     ids: Ids,
     paths: Paths,
-    at: usize,
     // how many records were answered
     count: u64,
     // the trace has ended
@@ -40,131 +41,85 @@ struct States {
 
 // All-zero IDs: what a refused fresh gives.
 fn no_ids() -> Ids {
-    let none = ids::fresh(
-        0,
-        values::ConnectionId {
-            bytes: [0; 20],
-            len: 0,
-        },
-        0,
-        values::Token {
-            bytes: [0; 16],
-            present: false,
-        },
-    );
-    let s = none.ids;
-    s
+    let cid = ConnectionId {
+        bytes: [0; 20],
+        len: 0,
+    };
+    let token = Token {
+        bytes: [0; 16],
+        present: false,
+    };
+    ids::fresh(0, cid, 0, token).ids
 }
 
-fn answered(s: States, at: usize) -> States {
-    let mut u = s;
-    u.at = at;
-    u.count = std::num::wrapping_add_u64(s.count, 1);
-    u
+impl States {
+    fn new() -> States {
+        States {
+            timers: timers::fresh(),
+            ids: no_ids(),
+            paths: paths_state::no_paths(),
+            count: 0,
+            over: false,
+        }
+    }
+
+    fn answer(&mut self, r: &Record, page: &mut Page<'_>) {
+        match r.call {
+            0x08..=0x0a => values_calls::line(r, page),
+            0x10..=0x16 => timers_calls::line(&mut self.timers, r, page),
+            0x20..=0x39 | 0xe0..=0xe2 => ids_calls::line(&mut self.ids, r, page),
+            0x40..=0x5d | 0xe8..=0xeb => paths_calls::line(&mut self.paths, r, page),
+            _ => {
+                page.pair(r.call);
+                page.text(" unknown call\n");
+            }
+        }
+        self.count = self.count.wrapping_add(1);
+    }
+
+    fn stop(&mut self, page: &mut Page<'_>, what: &str, how: &str) {
+        page.note(what, self.count, how);
+        self.over = true;
+    }
+
+    // One record, unless the trace is over.
+    fn step(&mut self, rec: &[u8; record::SIZE], page: &mut Page<'_>) {
+        if self.over {
+            return;
+        }
+        match record::read(rec) {
+            Some(r) => self.answer(&r, page),
+            None => self.stop(page, "record", " malformed"),
+        }
+    }
+
+    // The whole records among the bytes, 64 at most. Each line is shorter than 512 bytes, so that 32 kB hold the lines of a buffer.
+    fn records(&mut self, bytes: &[u8], page: &mut Page<'_>) {
+        for rec in bytes.as_chunks().0 {
+            self.step(rec, page);
+        }
+    }
+
+    fn finish(&mut self, rest: usize, page: &mut Page<'_>) {
+        if self.over {
+            return;
+        }
+        if rest == 0 {
+            self.stop(page, "end", "");
+        } else {
+            self.stop(page, "record", " truncated");
+        }
+    }
 }
 
-fn answer(s: States, r: Record, out: &mut [u8]) -> States {
-    let call = r.call;
-    let at = s.at;
-    let mut u = s;
-    if (0x08 <= call) & (call <= 0x0a) {
-        return answered(s, values_calls::line(r, out, at));
-    }
-    if (0x10 <= call) & (call <= 0x16) {
-        let t = s.timers;
-        let l = timers_calls::line(t, r, out, at);
-        let v = l.timers;
-        u.timers = v;
-        return answered(u, l.at);
-    }
-    if ((0x20 <= call) & (call <= 0x39)) | ((0xe0 <= call) & (call <= 0xe2)) {
-        let i = s.ids;
-        let l = ids_calls::line(i, r, out, at);
-        let v = l.ids;
-        u.ids = v;
-        return answered(u, l.at);
-    }
-    if ((0x40 <= call) & (call <= 0x5d)) | ((0xe8 <= call) & (call <= 0xeb)) {
-        let t = s.paths;
-        let l = paths_calls::line(t, r, out, at);
-        let v = l.paths;
-        u.paths = v;
-        return answered(u, l.at);
-    }
-    let p = text::put_pair(out, at, call);
-    let q = text::put_text(out, p, b" unknown call\n");
-    answered(s, q)
-}
+// 64 records.
+const INPUT: usize = 64 * record::SIZE;
 
-fn stopped(s: States, out: &mut [u8], what: &[u8], how: &[u8]) -> States {
-    let mut u = s;
-    u.at = text::put_note(out, s.at, what, s.count, how);
-    u.over = true;
-    u
-}
-
-// One record, unless the trace is over.
-fn step(s: States, rec: &[u8], out: &mut [u8]) -> States {
-    if s.over {
-        return s;
-    }
-    let r = record::read(rec);
-    if r.formed {
-        return answer(s, r, out);
-    }
-    stopped(s, out, b"record", b" malformed")
-}
-
-// Writes what has gathered.
-fn flushed(rt: &impl Print, s: States, out: &[u8]) -> io::Result<States> {
-    let n = s.at;
-    let mut u = s;
-    if n <= out.len() {
-        rt.write_all(&out[..n])?;
-    }
-    u.at = 0;
-    Ok(u)
-}
-
-// The record at place i of the buffer, if it is whole among the first n bytes.
-fn step_at(s: States, buf: &[u8], i: u8, n: usize, out: &mut [u8]) -> States {
-    let from = (i as usize) * 96;
-    let to = from + 96;
-    if n < to {
-        return s;
-    }
-    if buf.len() < to {
-        return s;
-    }
-    step(s, &buf[from..to], out)
-}
-
-// The whole records of the buffer's first n bytes, 64 at most. Each line is shorter than 512 bytes, so that 32 kB hold the lines of a buffer.
-fn records(s: States, buf: &[u8], n: usize, out: &mut [u8]) -> States {
-    let mut u = s;
-    let mut i: u8 = 0;
-    while i < 64 {
-        u = step_at(u, buf, i, n, out);
-        i += 1;
-    }
-    u
-}
-
-fn finished(s: States, rest: usize, out: &mut [u8]) -> States {
-    if s.over {
-        return s;
-    }
-    if rest == 0 {
-        return stopped(s, out, b"end", b"");
-    }
-    stopped(s, out, b"record", b" truncated")
-}
-
-// Room for 64 records. The contract gives only the length, so that the proof of `main` carries no list of zeros.
-fn input() -> [u8; 6144]
+// The contract gives only the length, so that the proof of `main` carries no list of zeros.
+fn input() -> [u8; INPUT]
     ensures { 6144 ≡ length result }
 {
-    [0; 6144]
+    [0; INPUT]
 }
 
 // Room for the lines of 64 records.
@@ -190,32 +145,23 @@ fn read_full(input: &mut impl Read, buf: &mut [u8], done: &mut usize) -> io::Res
 }
 
 fn main(rt: HostRuntime) -> io::Result<()> {
-    let mut space = input();
-    let mut page = lines();
-    let buf: &mut [u8] = &mut space;
-    let out: &mut [u8] = &mut page;
-    let mut s = States {
-        timers: timers::fresh(),
-        ids: no_ids(),
-        paths: paths_state::no_paths(),
-        at: 0,
-        count: 0,
-        over: false,
-    };
+    let mut buf = input();
+    let mut lines = lines();
+    let mut s = States::new();
     let mut source = rt.reader();
     // every function ends: a trace of more than 2^40 buffers is cut off
-    let mut k: u64 = 0;
-    while k < 1099511627776 {
-        let mut n: usize = 0;
-        let read = read_full(&mut source, buf, &mut n);
+    for _ in 0..1u64 << 40 {
+        let mut n = 0;
+        let read = read_full(&mut source, &mut buf, &mut n);
+        let mut page = Page::new(&mut lines);
         // what came before a read that failed is answered too
-        s = records(s, buf, n, out);
-        s = flushed(&rt, s, out)?;
+        s.records(&buf[..n], &mut page);
+        rt.write_all(page.written())?;
         read?;
-        k += 1;
-        if (n < 6144) | s.over {
-            s = finished(s, n % 96, out);
-            s = flushed(&rt, s, out)?;
+        if (n < INPUT) | s.over {
+            let mut page = Page::new(&mut lines);
+            s.finish(n % record::SIZE, &mut page);
+            rt.write_all(page.written())?;
             break;
         }
     }

@@ -1,189 +1,104 @@
 // The calls 40 to 5d, and the writes e8 to eb.
 use crate::record::Record;
-use crate::{answers, paths_digest, paths_reads, record, text};
+use crate::text::Page;
+use crate::{answers, paths_digest, paths_reads};
 use paths_state::{Path, Paths};
 use values::Moment;
 
-// The state after a call, and the place after its line.
-#[derive(Clone, Copy)]
-pub struct PathsLine {
-    pub paths: Paths,
-    pub at: usize,
+// Each of these writes the line up to the digest, and gives the state after the call.
+fn done(o: paths::DoneOut, call: u8, page: &mut Page<'_>) -> Paths {
+    page.head(call, o.answer.refusal);
+    o.paths
 }
 
-fn ended(t: Paths, out: &mut [u8], at: usize) -> PathsLine {
-    let p = text::put_end(out, at, paths_digest::of_paths(t));
-    PathsLine { paths: t, at: p }
+fn inserted(o: paths::InsertedOut, call: u8, page: &mut Page<'_>) -> Paths {
+    answers::counted(o.answer, call, page);
+    o.paths
 }
 
-fn done(o: paths::DoneOut, call: u8, out: &mut [u8], at: usize) -> PathsLine {
-    let t = o.paths;
-    let p = text::put_head(out, at, call, o.answer.refusal);
-    ended(t, out, p)
+fn popped(o: paths::PoppedOut, call: u8, page: &mut Page<'_>) -> Paths {
+    answers::numbered(o.answer, call, page);
+    o.paths
 }
 
-fn inserted(o: paths::InsertedOut, call: u8, out: &mut [u8], at: usize) -> PathsLine {
-    let t = o.paths;
-    let p = answers::counted(o.answer, call, out, at);
-    ended(t, out, p)
+fn responded(o: paths::RespondedOut, call: u8, page: &mut Page<'_>) -> Paths {
+    page.head(call, o.answer.refusal);
+    page.flag(o.answer.yes);
+    page.number(o.answer.spans.count as u64);
+    page.number(paths_digest::of_spans(&o.answer.spans));
+    o.paths
 }
 
-fn popped(o: paths::PoppedOut, call: u8, out: &mut [u8], at: usize) -> PathsLine {
-    let t = o.paths;
-    let p = answers::numbered(o.answer, call, out, at);
-    ended(t, out, p)
+fn moment(n: u64) -> Moment {
+    Moment { us: n }
 }
 
-fn responded(o: paths::RespondedOut, call: u8, out: &mut [u8], at: usize) -> PathsLine {
-    let t = o.paths;
-    let a = o.answer;
-    let spans = a.spans;
-    let p = text::put_head(out, at, call, a.refusal);
-    let q = text::put_flag(out, p, a.yes);
-    let n = text::put_number(out, q, spans.count as u64);
-    let m = text::put_number(out, n, paths_digest::of_spans(spans));
-    ended(t, out, m)
-}
-
-// Challenges, received and sent, and the table's own calls: 40, 41, 4e to 53.
-fn challenged(t: Paths, r: Record, out: &mut [u8], at: usize) -> PathsLine {
+// The table's own calls, and challenges, received and sent; any other call is below.
+fn challenged(t: &mut Paths, r: &Record, page: &mut Page<'_>) {
     let call = r.call;
-    if call == 0x40 {
-        return done(
-            paths::fresh(record::pair(r), r.n0, r.n1, r.n2, r.c),
-            call,
-            out,
-            at,
-        );
-    }
-    if call == 0x41 {
-        return inserted(paths::insert_path(t, record::pair(r), r.n0), call, out, at);
-    }
-    if call == 0x4e {
-        return done(paths::initiate_path_chal(t, r.n0), call, out, at);
-    }
-    if call == 0x4f {
-        return popped(paths::pop_recv_chal(t, r.n0), call, out, at);
-    }
-    if call == 0x50 {
-        return done(paths::on_path_chal_received(t, r.n0, r.n1), call, out, at);
-    }
-    if call == 0x51 {
-        let sent = Moment { us: r.n3 };
-        return done(
-            paths::on_path_chal_sent(t, r.n0, r.n1, r.n2, sent),
-            call,
-            out,
-            at,
-        );
-    }
-    if call == 0x52 {
-        let now = Moment { us: r.n2 };
-        return responded(
-            paths::on_path_resp_received(t, r.n0, r.n1, now),
-            call,
-            out,
-            at,
-        );
-    }
-    done(
-        paths::on_path_chal_timeout(t, Moment { us: r.n0 }),
-        call,
-        out,
-        at,
-    )
+    *t = match call {
+        0x40 => done(paths::fresh(r.pair(), r.n0, r.n1, r.n2, r.c), call, page),
+        0x41 => inserted(paths::insert_path(*t, r.pair(), r.n0), call, page),
+        0x4e => done(paths::initiate_path_chal(*t, r.n0), call, page),
+        0x4f => popped(paths::pop_recv_chal(*t, r.n0), call, page),
+        0x50 => done(paths::on_path_chal_received(*t, r.n0, r.n1), call, page),
+        0x51 => {
+            let o = paths::on_path_chal_sent(*t, r.n0, r.n1, r.n2, moment(r.n3));
+            done(o, call, page)
+        }
+        0x52 => {
+            let o = paths::on_path_resp_received(*t, r.n0, r.n1, moment(r.n2));
+            responded(o, call, page)
+        }
+        0x53 => done(paths::on_path_chal_timeout(*t, moment(r.n0)), call, page),
+        _ => return changed(t, r, page),
+    };
 }
 
-// Credit, pings, multipath and the fields that a host sets: 55, 56, 58 to 5d.
-fn changed(t: Paths, r: Record, out: &mut [u8], at: usize) -> PathsLine {
+// Credit, pings, multipath and the fields that a host sets; any other call only reads.
+fn changed(t: &mut Paths, r: &Record, page: &mut Page<'_>) {
     let call = r.call;
-    if call == 0x55 {
-        return done(paths::inc_anti_ampl_limit(t, r.n0, r.n1), call, out, at);
-    }
-    if call == 0x56 {
-        return done(paths::dec_anti_ampl_limit(t, r.n0, r.n1), call, out, at);
-    }
-    if call == 0x58 {
-        return done(paths::mark_ping(t, r.a, record::pair(r)), call, out, at);
-    }
-    if call == 0x59 {
-        return done(paths::enable_multipath(t), call, out, at);
-    }
-    if call == 0x5a {
-        return done(paths::set_scid_seq(t, r.n0, r.b, r.n1), call, out, at);
-    }
-    if call == 0x5b {
-        return done(paths::set_dcid_seq(t, r.n0, r.b, r.n1), call, out, at);
-    }
-    if call == 0x5c {
-        return done(paths::set_active(t, r.n0, r.c), call, out, at);
-    }
-    done(paths::mark_verified(t, r.n0), call, out, at)
+    *t = match call {
+        0x55 => done(paths::inc_anti_ampl_limit(*t, r.n0, r.n1), call, page),
+        0x56 => done(paths::dec_anti_ampl_limit(*t, r.n0, r.n1), call, page),
+        0x58 => done(paths::mark_ping(*t, r.a, r.pair()), call, page),
+        0x59 => done(paths::enable_multipath(*t), call, page),
+        0x5a => done(paths::set_scid_seq(*t, r.n0, r.b, r.n1), call, page),
+        0x5b => done(paths::set_dcid_seq(*t, r.n0, r.b, r.n1), call, page),
+        0x5c => done(paths::set_active(*t, r.n0, r.c), call, page),
+        0x5d => done(paths::mark_verified(*t, r.n0), call, page),
+        _ => return paths_reads::fields(*t, r, page),
+    };
 }
 
-// The path with its state written, where the number is that of a state: the Rust has five, and no field for another number.
-fn with_state(x: Path, n: u64) -> Path {
-    let mut y = x;
-    if n < 5 {
-        y.state = n as u8;
+// One field of a path is written: the credit, the lost count, the largest size, or the state, where the number is that of a state: the Rust has five, and no
+// field for another number.
+fn write_field(x: &mut Path, call: u8, n: u64) {
+    match call {
+        0xe8 => x.anti_ampl_limit = n,
+        0xe9 => x.lost_chal = n,
+        0xea => x.max_challenge_size = n,
+        _ => {
+            if n < 5 {
+                x.state = n as u8;
+            }
+        }
     }
-    y
 }
 
-// The path with one field written: the credit, the lost count, the largest size, or the state.
-fn with_field(x: Path, call: u8, n: u64) -> Path {
-    let mut y = x;
-    if call == 0xe8 {
-        y.anti_ampl_limit = n;
-        return y;
+// Nothing is tested, and a path that isn't there is left alone.
+fn written(t: &mut Paths, r: &Record, page: &mut Page<'_>) {
+    page.head(r.call, 0);
+    if (r.n0 < 8) & (r.n0 < t.count as u64) {
+        write_field(&mut t.items[r.n0 as usize], r.call, r.n1);
     }
-    if call == 0xe9 {
-        y.lost_chal = n;
-        return y;
-    }
-    if call == 0xea {
-        y.max_challenge_size = n;
-        return y;
-    }
-    with_state(x, n)
 }
 
-// The table with a field of the path written; nothing is tested, and a path that isn't there is left alone.
-fn damaged(t: Paths, r: Record) -> Paths {
-    let n = r.n0;
-    if (t.count as u64) <= n {
-        return t;
-    }
-    if 8 <= n {
-        return t;
-    }
-    let i = n as usize;
-    let mut u = t;
-    let x = u.items[i];
-    u.items[i] = with_field(x, r.call, r.n1);
-    u
-}
-
-fn written(t: Paths, r: Record, out: &mut [u8], at: usize) -> PathsLine {
-    let p = text::put_head(out, at, r.call, 0);
-    ended(damaged(t, r), out, p)
-}
-
-// Whether the call only reads: 42 to 4d, 54, 57.
-fn reads(call: u8) -> bool {
-    ((0x42 <= call) & (call <= 0x4d)) | (call == 0x54) | (call == 0x57)
-}
-
-pub fn line(t: Paths, r: Record, out: &mut [u8], at: usize) -> PathsLine {
+pub fn line(t: &mut Paths, r: &Record, page: &mut Page<'_>) {
     if 0xe8 <= r.call {
-        return written(t, r, out, at);
+        written(t, r, page);
+    } else {
+        challenged(t, r, page);
     }
-    if reads(r.call) {
-        let p = paths_reads::fields(t, r, out, at);
-        return ended(t, out, p);
-    }
-    if r.call <= 0x53 {
-        return challenged(t, r, out, at);
-    }
-    changed(t, r, out, at)
+    page.end(paths_digest::of_paths(t));
 }

@@ -1,98 +1,80 @@
 // The words of the paths, every slot of the table and of both challenge lists.
-use crate::digest;
+use crate::digest::Digest;
 use challenges::{Received, Sent, Spans};
 use paths_state::{Path, Paths};
 use values::Address;
 
-fn of_ip(h: u64, b: [u8; 16]) -> u64 {
-    let mut r = h;
-    let mut i: usize = 0;
-    while i < 16 {
-        r = digest::mix(r, digest::wide(b[i]));
-        i += 1;
+fn address(h: &mut Digest, a: &Address) {
+    h.bytes(&a.ip);
+    h.word(u64::from(a.flow));
+    h.word(u64::from(a.scope));
+    h.word(u64::from(a.port));
+    h.word(u64::from(a.kind));
+}
+
+fn received(h: &mut Digest, q: &Received) {
+    for d in &q.items {
+        h.word(*d);
     }
-    r
+    h.word(q.count as u64);
 }
 
-fn of_address(h: u64, a: Address) -> u64 {
-    let ip = a.ip;
-    let b = digest::mix(of_ip(h, ip), a.flow as u64);
-    let c = digest::mix(digest::mix(b, a.scope as u64), a.port as u64);
-    digest::mix(c, digest::wide(a.kind))
-}
-
-fn of_received(h: u64, q: Received) -> u64 {
-    let mut r = h;
-    let mut i: usize = 0;
-    while i < 8 {
-        let d = q.items[i];
-        r = digest::mix(r, d);
-        i += 1;
+fn sent(h: &mut Digest, s: &Sent) {
+    for c in &s.items {
+        h.word(c.data);
+        h.word(c.size);
+        h.word(c.sent.us);
+        h.word(c.deadline.us);
     }
-    digest::mix(r, q.count as u64)
+    h.word(s.count as u64);
 }
 
-fn of_sent(h: u64, s: Sent) -> u64 {
-    let mut r = h;
-    let mut i: usize = 0;
-    while i < 16 {
-        let c = s.items[i];
-        r = digest::mix(digest::mix(r, c.data), c.size);
-        r = digest::mix(digest::mix(r, c.sent.us), c.deadline.us);
-        i += 1;
+fn path(h: &mut Digest, x: &Path) {
+    address(h, &x.pair.local);
+    address(h, &x.pair.remote);
+    received(h, &x.recv_chals);
+    sent(h, &x.sent_chals);
+    h.word(x.max_datagram_size);
+    h.word(x.scid_seq);
+    h.word(x.dcid_seq);
+    h.word(x.lost_chal);
+    h.word(x.max_challenge_size);
+    h.word(x.anti_ampl_limit);
+    h.word(u64::from(x.state));
+    h.flag(x.has_scid);
+    h.flag(x.has_dcid);
+    h.flag(x.active);
+    h.flag(x.need_send_challenge);
+    h.flag(x.verified_peer_address);
+    h.flag(x.peer_verified_local_address);
+    h.flag(x.need_send_ping);
+    h.flag(x.listed);
+}
+
+pub fn of_path(x: &Path) -> u64 {
+    let mut h = Digest::new();
+    path(&mut h, x);
+    h.value()
+}
+
+pub fn of_paths(t: &Paths) -> u64 {
+    let mut h = Digest::new();
+    for x in &t.items {
+        path(&mut h, x);
     }
-    digest::mix(r, s.count as u64)
+    h.word(t.count as u64);
+    h.word(t.max_paths);
+    h.word(t.anti_ampl_factor);
+    h.flag(t.is_multipath);
+    h.flag(t.is_server);
+    h.value()
 }
 
-pub fn of_path(h: u64, x: Path) -> u64 {
-    let pair = x.pair;
-    let local = pair.local;
-    let remote = pair.remote;
-    let received = x.recv_chals;
-    let sent = x.sent_chals;
-    let a = of_address(of_address(h, local), remote);
-    let b = of_sent(of_received(a, received), sent);
-    let c = digest::mix(digest::mix(b, x.max_datagram_size), x.scid_seq);
-    let d = digest::mix(digest::mix(c, x.dcid_seq), x.lost_chal);
-    let e = digest::mix(digest::mix(d, x.max_challenge_size), x.anti_ampl_limit);
-    let f = digest::mix_flag(digest::mix(e, digest::wide(x.state)), x.has_scid);
-    let g = digest::mix_flag(digest::mix_flag(f, x.has_dcid), x.active);
-    let i = digest::mix_flag(
-        digest::mix_flag(g, x.need_send_challenge),
-        x.verified_peer_address,
-    );
-    let j = digest::mix_flag(
-        digest::mix_flag(i, x.peer_verified_local_address),
-        x.need_send_ping,
-    );
-    digest::mix_flag(j, x.listed)
-}
-
-fn of_items(h: u64, t: Paths) -> u64 {
-    let mut r = h;
-    let mut i: usize = 0;
-    while i < 8 {
-        let x = t.items[i];
-        r = of_path(r, x);
-        i += 1;
+// All 16 spans, those past the count too.
+pub fn of_spans(s: &Spans) -> u64 {
+    let mut h = Digest::new();
+    for x in &s.items {
+        h.word(x.us);
     }
-    digest::mix(r, t.count as u64)
-}
-
-pub fn of_paths(t: Paths) -> u64 {
-    let a = of_items(0, t);
-    let b = digest::mix(digest::mix(a, t.max_paths), t.anti_ampl_factor);
-    digest::mix_flag(digest::mix_flag(b, t.is_multipath), t.is_server)
-}
-
-// The digest of all 16 spans, those past the count too.
-pub fn of_spans(s: Spans) -> u64 {
-    let mut h: u64 = 0;
-    let mut i: usize = 0;
-    while i < 16 {
-        let x = s.items[i];
-        h = digest::mix(h, x.us);
-        i += 1;
-    }
-    h
+    h.value()
 }

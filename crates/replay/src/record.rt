@@ -1,7 +1,9 @@
 // A record of 96 bytes, as docs/TRACES.md lays it out.
-ghost use Rattle.std.specs.Prelude.{◌≤◌};
+ghost use Rattle.std.specs.Prelude.{◌≤◌, ◌+◌, length};
 
-use values::{Address, ConnectionId, FourTuple, Token};
+use values::{Address, ConnectionId, FourTuple, ResetToken, Token};
+
+pub const SIZE: usize = 96;
 
 #[derive(Clone, Copy)]
 pub struct Record {
@@ -15,147 +17,95 @@ pub struct Record {
     pub b: bool,
     pub c: bool,
     pub d: bool,
-    pub formed: bool,
 }
 
-fn byte(s: &[u8], at: usize) -> u8 {
-    if at < s.len() {
-        return s[at];
+// The N bytes from `from` on.
+fn part<const N: usize>(s: &[u8], from: usize) -> [u8; N]
+    requires { from + N ≤ length s.now }
+{
+    let mut bytes = [0; N];
+    bytes.copy_from_slice(&s[from..from + N]);
+    bytes
+}
+
+// The big-endian number from `at` on.
+fn word(s: &[u8; SIZE], at: usize) -> u64
+    requires { at ≤ 88 }
+{
+    u64::from_be_bytes(part(s, at))
+}
+
+// None where a flag is neither 0 nor 1, or one of the five spare bytes isn't zero.
+pub fn read(s: &[u8; SIZE]) -> Option<Record> {
+    let flags = s[1] | s[2] | s[3] | s[4];
+    let spare = s[5] | s[6] | s[7] | s[94] | s[95];
+    if (1 < flags) | (spare != 0) {
+        return None;
     }
-    0
-}
-
-fn wide(b: u8) -> u64 {
-    b as u64
-}
-
-// The eight bytes from `at` on, big-endian.
-fn word(s: &[u8], at: u8) -> u64 {
-    let mut x: u64 = 0;
-    let from = at as usize;
-    let mut i: usize = 0;
-    while i < 8 {
-        x = (x << 8) | wide(byte(s, from + i));
-        i += 1;
-    }
-    x
-}
-
-fn area(s: &[u8]) -> [u8; 54] {
-    let mut r = [0u8; 54];
-    let mut i: usize = 0;
-    while i < 54 {
-        r[i] = byte(s, 40 + i);
-        i += 1;
-    }
-    r
-}
-
-// The flags are 0 or 1, and the five spare bytes are zero.
-fn formed(s: &[u8]) -> bool {
-    let flags = byte(s, 1) | byte(s, 2) | byte(s, 3) | byte(s, 4);
-    let spare = byte(s, 5) | byte(s, 6) | byte(s, 7) | byte(s, 94) | byte(s, 95);
-    (flags < 2) & (spare == 0)
-}
-
-pub fn read(s: &[u8]) -> Record {
-    let area = area(s);
-    Record {
-        area: area,
+    Some(Record {
+        area: part(s, 40),
         n0: word(s, 8),
         n1: word(s, 16),
         n2: word(s, 24),
         n3: word(s, 32),
-        call: byte(s, 0),
-        a: byte(s, 1) == 1,
-        b: byte(s, 2) == 1,
-        c: byte(s, 3) == 1,
-        d: byte(s, 4) == 1,
-        formed: formed(s),
-    }
-}
-
-// The ID that the area begins with: its length, and 20 bytes.
-pub fn id(r: Record) -> ConnectionId {
-    let mut bytes = [0u8; 20];
-    let mut i: usize = 0;
-    while i < 20 {
-        bytes[i] = r.area[i + 1];
-        i += 1;
-    }
-    ConnectionId {
-        bytes: bytes,
-        len: r.area[0],
-    }
-}
-
-// The 16 bytes of the area from `from` on.
-fn sixteen(area: [u8; 54], from: u8) -> [u8; 16]
-    requires { from ≤ 38 }
-{
-    let start = from as usize;
-    let mut bytes = [0u8; 16];
-    let mut i: usize = 0;
-    while i < 16 {
-        bytes[i] = area[start + i];
-        i += 1;
-    }
-    bytes
-}
-
-// The 16 bytes after the ID, with the record's flag a.
-pub fn token(r: Record) -> Token {
-    let area = r.area;
-    Token {
-        bytes: sixteen(area, 21),
-        present: r.a,
-    }
-}
-
-// The 16 bytes after that token, with the record's flag b.
-pub fn other_token(r: Record) -> Token {
-    let area = r.area;
-    Token {
-        bytes: sixteen(area, 37),
-        present: r.b,
-    }
-}
-
-fn number(area: [u8; 54], from: u8, bytes: u8) -> u32
-    requires { (from ≤ 50) × (bytes ≤ 4) }
-{
-    let mut x: u32 = 0;
-    let start = from as usize;
-    let many = bytes as usize;
-    let mut i: usize = 0;
-    while i < many {
-        x = (x << 8) | (area[start + i] as u32);
-        i += 1;
-    }
-    x
+        call: s[0],
+        a: s[1] == 1,
+        b: s[2] == 1,
+        c: s[3] == 1,
+        d: s[4] == 1,
+    })
 }
 
 // The address of 27 bytes from `from` on: kind, IP, port, flow, scope.
-fn address(area: [u8; 54], from: u8) -> Address
+fn address(area: &[u8; 54], from: usize) -> Address
     requires { from ≤ 27 }
 {
-    let start = from as usize;
     Address {
-        ip: sixteen(area, from + 1),
-        flow: number(area, from + 19, 4),
-        scope: number(area, from + 23, 4),
-        port: (number(area, from + 17, 2) % 65536) as u16,
-        kind: area[start],
+        ip: part(area, from + 1),
+        flow: u32::from_be_bytes(part(area, from + 19)),
+        scope: u32::from_be_bytes(part(area, from + 23)),
+        port: u16::from_be_bytes(part(area, from + 17)),
+        kind: area[from],
     }
 }
 
-// The pair of addresses that the area holds.
-pub fn pair(r: Record) -> FourTuple {
-    let area = r.area;
-    let local = address(area, 0);
-    let remote = address(area, 27);
-    FourTuple {
-        local: local,
-        remote: remote,
+impl Record {
+    // The ID that the area begins with: its length, and 20 bytes.
+    pub fn id(&self) -> ConnectionId {
+        ConnectionId {
+            bytes: part(&self.area, 1),
+            len: self.area[0],
+        }
+    }
+
+    // The 16 bytes after the ID, with the record's flag a.
+    pub fn token(&self) -> Token {
+        Token {
+            bytes: part(&self.area, 21),
+            present: self.a,
+        }
+    }
+
+    // The same 16 bytes, as a frame carries them.
+    pub fn reset_token(&self) -> ResetToken {
+        ResetToken {
+            bytes: part(&self.area, 21),
+        }
+    }
+
+    // The 16 bytes after that token, with the record's flag b.
+    pub fn other_token(&self) -> Token {
+        Token {
+            bytes: part(&self.area, 37),
+            present: self.b,
+        }
+    }
+
+    // The pair of addresses that the area holds.
+    pub fn pair(&self) -> FourTuple {
+        FourTuple {
+            local: address(&self.area, 0),
+            remote: address(&self.area, 27),
+        }
     }
 }

@@ -1,82 +1,84 @@
-// ASCII into a buffer: each function writes from a place on and answers the place after it. A byte past the buffer's end is dropped, so nothing traps.
+// ASCII into a buffer: a page, on which each method writes after what stands there. A byte past the buffer's end is dropped, so nothing traps.
 ghost use Rattle.std.specs.Prelude.{◌<◌};
 
-pub fn put_byte(out: &mut [u8], at: usize, b: u8) -> usize {
-    if at < out.len() {
-        out[at] = b;
-        return at + 1;
-    }
-    at
+#[derive(Drop)]
+pub struct Page<'a> {
+    out: &'a mut [u8],
+    at: usize,
 }
 
 fn digit(d: u8) -> u8
     requires { d < 16 }
 {
-    if d < 10 { d + 48 } else { d + 87 }
+    if d < 10 { d + b'0' } else { d - 10 + b'a' }
 }
 
-// Two hexadecimal digits.
-pub fn put_pair(out: &mut [u8], at: usize, b: u8) -> usize {
-    let p = put_byte(out, at, digit(b / 16));
-    put_byte(out, p, digit(b % 16))
-}
-
-// Sixteen hexadecimal digits.
-pub fn put_word(out: &mut [u8], at: usize, x: u64) -> usize {
-    let mut p = at;
-    let mut i: u64 = 0;
-    while i < 8 {
-        let s = 56 - 8 * i;
-        let b = ((x >> s) % 256) as u8;
-        p = put_pair(out, p, b);
-        i += 1;
+impl<'a> Page<'a> {
+    pub fn new(out: &'a mut [u8]) -> Page<'a> {
+        Page { out, at: 0 }
     }
-    p
-}
 
-// A space, and a number.
-pub fn put_number(out: &mut [u8], at: usize, x: u64) -> usize {
-    let p = put_byte(out, at, b' ');
-    put_word(out, p, x)
-}
-
-// A space, and 0 or 1.
-pub fn put_flag(out: &mut [u8], at: usize, b: bool) -> usize {
-    let p = put_byte(out, at, b' ');
-    let mut c: u8 = b'0';
-    if b {
-        c = b'1';
+    // What was written.
+    pub fn written(&self) -> &[u8] {
+        self.out.get(..self.at).unwrap_or_default()
     }
-    put_byte(out, p, c)
-}
 
-pub fn put_text(out: &mut [u8], at: usize, s: &[u8]) -> usize {
-    let mut p = at;
-    let mut i: usize = 0;
-    while i < s.len() {
-        p = put_byte(out, p, s[i]);
-        i += 1;
+    pub fn byte(&mut self, b: u8) {
+        if self.at < self.out.len() {
+            self.out[self.at] = b;
+            self.at += 1;
+        }
     }
-    p
-}
 
-// How a line begins: the call and its refusal.
-pub fn put_head(out: &mut [u8], at: usize, call: u8, refusal: u8) -> usize {
-    let p = put_pair(out, at, call);
-    let q = put_byte(out, p, b' ');
-    put_pair(out, q, refusal)
-}
+    // Two hexadecimal digits.
+    pub fn pair(&mut self, b: u8) {
+        self.byte(digit(b / 16));
+        self.byte(digit(b % 16));
+    }
 
-// How a line ends: the digest of the state.
-pub fn put_end(out: &mut [u8], at: usize, digest: u64) -> usize {
-    let p = put_number(out, at, digest);
-    put_byte(out, p, b'\n')
-}
+    // Two for each byte.
+    pub fn pairs(&mut self, bytes: &[u8]) {
+        for b in bytes {
+            self.pair(*b);
+        }
+    }
 
-// A line that tells where the trace ended, and how: `what` stands before the number of records, `how` after it.
-pub fn put_note(out: &mut [u8], at: usize, what: &[u8], n: u64, how: &[u8]) -> usize {
-    let p = put_text(out, at, what);
-    let q = put_number(out, p, n);
-    let s = put_text(out, q, how);
-    put_byte(out, s, b'\n')
+    // A space, and sixteen hexadecimal digits.
+    pub fn number(&mut self, x: u64) {
+        self.byte(b' ');
+        self.pairs(&x.to_be_bytes());
+    }
+
+    // A space, and 0 or 1.
+    pub fn flag(&mut self, b: bool) {
+        self.byte(b' ');
+        self.byte(if b { b'1' } else { b'0' });
+    }
+
+    pub fn text(&mut self, s: &str) {
+        for b in s.as_bytes() {
+            self.byte(*b);
+        }
+    }
+
+    // How a line begins: the call and its refusal.
+    pub fn head(&mut self, call: u8, refusal: u8) {
+        self.pair(call);
+        self.byte(b' ');
+        self.pair(refusal);
+    }
+
+    // How a line ends: the digest of the state.
+    pub fn end(&mut self, digest: u64) {
+        self.number(digest);
+        self.byte(b'\n');
+    }
+
+    // A line that tells where the trace ended, and how: `what` stands before the number of records, `how` after it.
+    pub fn note(&mut self, what: &str, n: u64, how: &str) {
+        self.text(what);
+        self.number(n);
+        self.text(how);
+        self.byte(b'\n');
+    }
 }

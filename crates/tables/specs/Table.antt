@@ -1,9 +1,8 @@
 -- The tables that hold a list: what a table is read as, the one that is built of a list, and the tests of items that its code makes.
-use Rattle.std.specs.Prelude.{ℕ, List, [], ◌∷◌, Bool, true, false, not, cond, ◌&&◌, ◌||◌, eqb, leb, length, take, get_or}
-use Rattle.std.proofs.Math.Option.{Option, none, some}
-use Rattle.lists.specs.Defs.{padded}
+use Rattle.std.specs.Prelude.{Option as Optional, Some, None, ℕ, zero, suc, List, [], ◌∷◌, Bool, true, false, not, cond, ◌&&◌, ◌||◌, eqb, leb, length, take}
+use Rattle.lists.specs.Defs.{nought, padded, past}
 use Rattle.lists.specs.Held.{Held}
-use Rattle.values.specs.Limits.{table_slots, queue_slots}
+use Rattle.values.specs.Limits.{max_cid_len, token_len, table_slots, queue_slots}
 use Rattle.values.specs.Cid.{zero_id, same_id}
 use Rattle.values.specs.Token.{zero_token, same_token}
 use Rattle.values.specs.declared.cid.ConnectionId.{ConnectionId}
@@ -13,9 +12,8 @@ use Rattle.tables.specs.declared.items.Item.{Item}
 use Rattle.tables.specs.declared.items.Table.{Table}
 use Rattle.tables.specs.declared.sequences.Queue.{Queue}
 use Rattle.tables.specs.declared.lower.Used.{Used}
-use Rattle.tables.specs.declared.lookup.Lowest.{Lowest}
-use Rattle.tables.specs.declared.lookup.Lowest.TheVariants.{Seq, Missing}
-use Rattle.tables.specs.declared.lookup.Sought.{Sought}
+use Rattle.tables.specs.declared.lookup.Clash.{Clash}
+use Rattle.tables.specs.declared.lookup.Clash.TheVariants.{Repeats, Differs}
 
 -- ---- reading and building
 
@@ -46,17 +44,18 @@ TableWell t = Held table_slots zero_item t.items t.count
 abbrev pub QueueWell : Queue → Type 0
 QueueWell q = Held queue_slots 0 q.items q.count
 
--- ---- what a search gives
-
-abbrev pub sought_of : Table → Option ℕ → Sought
-sought_of t none = record { item = zero_item; place = 0; present = false }
-sought_of t (some i) = record { item = get_or (live t) i zero_item; place = i; present = true }
-
-abbrev pub lowest_of : Option ℕ → Lowest
-lowest_of none = Missing
-lowest_of (some n) = Seq n
-
 -- ---- tests of one item
+
+-- the item is the zero item
+abbrev pub is_zero : Item → Bool
+is_zero x =
+    nought x.seq
+    && nought x.path
+    && nought x.cid.len
+    && past nought max_cid_len 0 x.cid.bytes
+    && past nought token_len 0 x.token.bytes
+    && not x.token.present
+    && not x.has_path
 
 abbrev pub differs : ℕ → ℕ → Bool
 differs x y = not (eqb x y)
@@ -107,3 +106,9 @@ judged x y = cond (clashing x y) (cond (repeating x y) 1 2) 0
 abbrev pub first_judged : Item → List Item → ℕ
 first_judged x [] = 0
 first_judged x (y ∷ l) = cond (clashing x y) (cond (repeating x y) 1 2) (first_judged x l)
+
+-- what is judged 0 is no clash
+abbrev pub clash_of : ℕ → Optional Clash
+clash_of zero = None
+clash_of (suc zero) = Some Repeats
+clash_of (suc (suc n)) = Some Differs

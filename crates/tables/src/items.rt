@@ -1,12 +1,13 @@
 // The table of connection IDs: 31 places, of which the first `count` hold items in the order in which they were added.
-ghost use Rattle.std.specs.Prelude.{◌≡◌, [], ◌∷◌, ◌++◌, ◌<◌, get_or, set};
+ghost use Rattle.std.specs.Prelude.{◌≡◌, [], ◌∷◌, ◌++◌, ◌<◌, ◌≤◌, get_or, set};
 ghost use Rattle.lists.specs.Defs.{keep, without};
 ghost use Rattle.values.specs.Limits.{table_slots};
-ghost use Rattle.tables.specs.Table.{TableWell, at_least, live, on_path, table_of, zero_item};
+ghost use Rattle.tables.specs.Table.{TableWell, at_least, is_zero, live, on_path, table_of, zero_item};
 
-use values::{ConnectionId, Token};
+use values::limits::TABLE_SLOTS;
+use values::{ConnectionId, Gather, Token};
 
-// What is absent holds zeros. The bytes come before the flag, so that the compiler can test several items' bytes at a time.
+// What is absent holds zeros: `has_path` and `path` are an Option as C sees it. The bytes come before the flag, so that the compiler can test several items' bytes at a time.
 #[repr(C)]
 #[derive(Clone, Copy)]
 pub struct Item {
@@ -22,6 +23,52 @@ pub struct Item {
 pub struct Table {
     pub items: [Item; 31],
     pub count: usize,
+}
+
+// Both flags are gathered in one.
+impl Gather for Item {
+    ghost is_nothing = { is_zero };
+
+    fn nothing() -> Item {
+        blank()
+    }
+
+    #[tactic(auto, using(crate::specs::Laws::gathered_item))]
+    fn gather(self, other: Item) -> Item {
+        Item {
+            seq: self.seq | other.seq,
+            path: self.path | other.path,
+            cid: ConnectionId {
+                bytes: self.cid.bytes.gather(other.cid.bytes),
+                len: self.cid.len | other.cid.len,
+            },
+            token: Token {
+                bytes: self.token.bytes.gather(other.token.bytes),
+                present: false,
+            },
+            has_path: self.has_path | self.token.present | other.has_path | other.token.present,
+        }
+    }
+
+    fn is_none(self) -> bool {
+        (self.seq == 0)
+            & (self.path == 0)
+            & (self.cid.len == 0)
+            & self.cid.bytes.is_none()
+            & self.token.bytes.is_none()
+            & !self.token.present
+            & !self.has_path
+    }
+}
+
+impl Table {
+    // The items that the table holds.
+    pub fn live(&self) -> &[Item]
+        requires { self.now.count ≤ table_slots }
+        ensures { result.now ≡ live self.now }
+    {
+        &self.items[..self.count]
+    }
 }
 
 pub fn blank() -> Item
@@ -45,39 +92,35 @@ pub fn blank() -> Item
 pub fn no_items() -> Table
     ensures { result ≡ table_of [] }
 {
-    let zero = blank();
     Table {
-        items: [zero; 31],
+        items: [blank(); TABLE_SLOTS],
         count: 0,
     }
 }
 
 // The item goes to the end: there is room.
+#[tactic(auto, using(crate::specs::Laws::append_is))]
 pub fn append(t: Table, item: Item) -> Table
     requires { TableWell t × (t.count < table_slots) }
     ensures { result ≡ table_of (live t ++ (item ∷ [])) }
 {
     let mut u = t;
-    let count = t.count;
-    u.items[count] = item;
-    u.count = count + 1;
+    u.items[t.count] = item;
+    u.count = t.count + 1;
     u
 }
 
 // The items at or above the bound.
+#[tactic(auto, using(lists::specs::Search::keep_few, std::proofs::lemmas::Grind::common_steps))]
 pub fn keep_from(t: Table, bound: u64) -> Table
     requires { TableWell t }
     ensures { result ≡ table_of (keep (at_least bound) (live t)) }
 {
     let mut out = no_items();
-    let count = t.count;
-    let mut i: usize = 0;
-    while i < count {
-        let x = t.items[i];
+    for x in t.live() {
         if bound <= x.seq {
-            out = append(out, x);
+            out = append(out, *x);
         }
-        i += 1;
     }
     out
 }
@@ -88,34 +131,22 @@ pub fn remove_at(t: Table, i: usize) -> Table
     ensures { result ≡ table_of (without i (live t)) }
 {
     let mut u = t;
-    let last = t.count - 1;
-    let mut j = i;
-    while j < last {
-        let next = j + 1;
-        let x = u.items[next];
-        u.items[j] = x;
-        j = next;
-    }
-    u.items[last] = blank();
-    u.count = last;
+    values::take_out(&mut u.items, t.count, i, blank());
+    u.count = t.count - 1;
     u
 }
 
 // The item at i is put on the path.
+#[tactic(auto, using(crate::specs::Laws::path_is))]
 pub fn set_path(t: Table, i: usize, path: u64) -> Table
     requires { TableWell t × (i < t.count) }
     ensures { result ≡ table_of (set (live t) i (on_path path (get_or (live t) i zero_item))) }
 {
     let mut u = t;
-    let x = t.items[i];
-    let cid = x.cid;
-    let token = x.token;
     u.items[i] = Item {
-        seq: x.seq,
-        path: path,
-        cid: cid,
-        token: token,
+        path,
         has_path: true,
+        ..t.items[i]
     };
     u
 }

@@ -1,13 +1,14 @@
 // What a higher Retire Prior To moves out of the table: the lower sequences, and the paths that used them.
-ghost use Rattle.std.specs.Prelude.{◌≡◌, [], ◌++◌, ◌+◌, ◌≤◌, length};
+ghost use Rattle.std.specs.Prelude.{◌≡◌, [], ◌∷◌, ◌++◌, ◌+◌, ◌<◌, ◌≤◌, length};
 ghost use Rattle.lists.specs.Defs.{keep, picked};
-ghost use Rattle.values.specs.Limits.{queue_slots};
-ghost use Rattle.tables.specs.Table.{QueueWell, TableWell, below, entries, live, low_on_path, pair_of, queue_of, seq_of, used_of};
+ghost use Rattle.values.specs.Limits.{queue_slots, table_slots};
+ghost use Rattle.tables.specs.Table.{QueueWell, below, entries, low_on_path, pair_of, queue_of, seq_of, used_of};
 
-use crate::items::Table;
+use crate::items::Item;
 use crate::sequences;
 use crate::sequences::Queue;
 use values::UsedSeq;
+use values::limits::TABLE_SLOTS;
 
 #[repr(C)]
 #[derive(Clone, Copy)]
@@ -20,50 +21,41 @@ pub fn no_pairs() -> Used
     ensures { result ≡ used_of [] }
 {
     Used {
-        pairs: [UsedSeq { seq: 0, path: 0 }; 31],
+        pairs: [UsedSeq { seq: 0, path: 0 }; TABLE_SLOTS],
         count: 0,
     }
 }
 
 // The sequences below the bound go to the end of the queue, in table order: there is room.
-pub fn queue_lower(t: Table, bound: u64, q: Queue) -> Queue
-    requires { TableWell t × QueueWell q × (q.count + length (keep (below bound) (live t)) ≤ queue_slots) }
-    ensures { result ≡ queue_of (entries q ++ picked seq_of (below bound) (live t)) }
+#[tactic(auto, using(lists::specs::Search::keep_room, std::proofs::lemmas::Grind::common_steps))]
+pub fn queue_lower(items: &[Item], bound: u64, q: Queue) -> Queue
+    requires { QueueWell q × (q.count + length (keep (below bound) items.now) ≤ queue_slots) }
+    ensures { result ≡ queue_of (entries q ++ picked seq_of (below bound) items.now) }
 {
     let mut out = q;
-    let count = t.count;
-    let mut i: usize = 0;
-    while i < count {
-        let x = t.items[i];
+    for x in items {
         if x.seq < bound {
             out = sequences::queue_push(out, x.seq);
         }
-        i += 1;
     }
     out
 }
 
 // The sequence and the path of each item below the bound that has one, in table order.
-pub fn used_lower(t: Table, bound: u64) -> Used
-    requires { TableWell t }
-    ensures { result ≡ used_of (picked pair_of (low_on_path bound) (live t)) }
+#[tactic(auto, using(crate::specs::Laws::used_yes, crate::specs::Laws::used_no))]
+pub fn used_lower(items: &[Item], bound: u64) -> Used
+    requires { length items.now ≤ table_slots }
+    ensures { result ≡ used_of (picked pair_of (low_on_path bound) items.now) }
 {
     let mut out = no_pairs();
-    let count = t.count;
-    let mut i: usize = 0;
-    while i < count {
-        let x = t.items[i];
-        if x.seq < bound {
-            if x.has_path {
-                let n = out.count;
-                out.pairs[n] = UsedSeq {
-                    seq: x.seq,
-                    path: x.path,
-                };
-                out.count = n + 1;
-            }
+    for x in items {
+        if (x.seq < bound) & x.has_path {
+            out.pairs[out.count] = UsedSeq {
+                seq: x.seq,
+                path: x.path,
+            };
+            out.count += 1;
         }
-        i += 1;
     }
     out
 }

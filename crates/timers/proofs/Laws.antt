@@ -1,19 +1,30 @@
--- Laws of the timer table: reading and building are inverse, every call keeps the table well formed, and what a turn of the search for the least deadline does.
-use Rattle.std.specs.Prelude.{ℕ, ◌+◌, ◌<◌, min, ◌≡◌, refl, List, [], ◌∷◌, ◌++◌, map, Bool, true, false, cond, ◌&&◌, eqb, leb, ltb, length, take, get_or, set}
-use Rattle.std.proofs.Common.{sym, ap, ap₂, ◌∙◌, append-nil, arith, add-one, length-set, take-suc, eqb-true, eq-eqb, ltb-true, ltb-false}
+-- Laws of the timer table: reading and building are inverse, every call keeps the table well formed, what finds the least deadline, and which numbers the timers have.
+use Rattle.std.specs.Prelude.{Some, Ok, MatchResult, ℕ, ◌+◌, ◌<◌, min, ◌≡◌, refl, List, [], ◌∷◌, ◌++◌, map, Bool, true, false, cond, ◌&&◌, eqb, leb, ltb, length, take, get_or, set}
+use Rattle.std.proofs.Common.{rules, Ordering, Less, Equal, Greater, sym, ap, ap₂, ◌∙◌, append-nil, arith, add-one, length-set, take-suc, eqb-true, eq-eqb, ltb-true, ltb-false}
 use Rattle.std.proofs.Math.Option.{Option, none, some}
 use Rattle.std.proofs.lemmas.List.{length-map}
 use Rattle.std.proofs.Math.ListN.{get_or-map}
+use Rattle.std.proofs.Math.Bool.{and-true, and_assoc}
+use Rattle.std.proofs.lemmas.Cmp.{ranked}
+use Rattle.std.specs.List.{filter_map, cons_option, fold, reduce}
+use Rattle.std.specs.Ordering.{MatchOrdering, nat_cmp, min_by_ordering}
 use Rattle.lists.specs.Defs.{all, least, less, somes, maybe, given}
 use Rattle.lists.specs.Bools.{and_both}
 use Rattle.lists.specs.Search.{least_snoc}
+use Rattle.lists.specs.Tests.{past_all}
 use Rattle.lists.specs.Maps.{map_set, map_is, somes_append, all_set}
 use Rattle.lists.specs.Held.{get_or_in}
 use Rattle.values.specs.Limits.{timer_count}
 use Rattle.values.specs.declared.time.Deadline.{Deadline}
-use Rattle.values.specs.Time.{moment_formed_of, deadline_formed_of, deadline_view, deadline_of}
+use Rattle.values.specs.declared.time.Moment.{Moment}
+use Rattle.values.specs.Time.{moment_formed_of, deadline_formed_of, deadline_view, deadline_of, moved_of}
 use Rattle.values.specs.Laws.{deadline_is, deadline_of_lem}
+use Rattle.values.specs.declared.refusals.Refusal.TheVariants.{Malformed}
+use Rattle.timers.specs.declared.table.Timer.{Timer}
+use Rattle.timers.specs.declared.table.Timer.TheVariants.{LossDetection, Ack, Pacer, Idle, Handshake, Draining, KeyDiscard, KeepAlive, PathChallenge}
 use Rattle.timers.specs.declared.table.TimerTable.{TimerTable}
+use Rattle.timers.specs.Names.{number_of, timer_named}
+use Rattle.timers.specs.Calls.{is_timer}
 use Rattle.timers.specs.Timers.{Timers, well_formed, view, timers_of, fresh_timers, set_timer, stop_timer, get_timer, next_timeout, sooner_of}
 
 -- ---- reading and building
@@ -73,7 +84,7 @@ unfolding soon
 least_one v none = ap least (somes_append v (none ∷ []) ∙ append-nil (somes v))
 least_one v (some n) = ap least (somes_append v (some n ∷ [])) ∙ least_snoc (somes v) n
 
--- one timer more is looked at
+-- one timer more is looked at, where a loop looks at one after the other
 module _ (t : TimerTable) (w : well_formed t ≡ true) (i : ℕ) (h : i < timer_count) (d best : Deadline) (e : best ≡ deadline_of (next_timeout (take i (view t)))) where
   pub next_more : (r : Deadline) → r ≡ sooner_of best (get_or t.expires i d) → r ≡ deadline_of (next_timeout (take (i + 1) (view t)))
   next_more r q =
@@ -84,6 +95,76 @@ module _ (t : TimerTable) (w : well_formed t ≡ true) (i : ℕ) (h : i < timer_
       (ap (soon (next_timeout (take i (view t)))) (deadline_of_lem (get_timer i (view t)))
       ∙ sym (least_one (take i (view t)) (get_timer i (view t)))
       ∙ ap (λ (v : Timers). next_timeout v) (sym (ap (λ (n : ℕ). take n (view t)) (add-one i) ∙ take-suc (view t) i none (omega (arith, nine t w, length-map t.expires deadline_view)))))
+
+-- ---- the least, as a chain over the table finds it
+
+-- the moments that are set are those of the deadlines that are
+moments : (l : List Deadline) → map (λ (m : Moment). m.us) (filter_map (λ (d : Deadline). moved_of (deadline_view d)) l) ≡ somes (map deadline_view l)
+moments [] = refl
+moments (d ∷ ds) = go (deadline_view d) (moments ds)
+  where
+    go : (o : Option ℕ) → map (λ (m : Moment). m.us) (filter_map (λ (e : Deadline). moved_of (deadline_view e)) ds) ≡ somes (map deadline_view ds)
+        → map (λ (m : Moment). m.us) (cons_option (moved_of o) (filter_map (λ (e : Deadline). moved_of (deadline_view e)) ds)) ≡ somes (o ∷ map deadline_view ds)
+    go none e = e
+    go (some n) e = ap (λ (ns : List ℕ). n ∷ ns) e
+
+less_min : (o : Option ℕ) (x y : ℕ) → less o (min x y) ≡ less (less o y) x
+less_min none x y = ap some (omega arith)
+less_min (some m) x y = ap some (omega arith)
+
+-- the first of two moments that are equal, else the one that is less
+earlier : Moment → Moment → Moment
+earlier a b = min_by_ordering (nat_cmp a.us b.us) a b
+
+earlier_us : (a b : Moment) → (earlier a b).us ≡ min a.us b.us
+unfolding earlier
+earlier_us a b = go (nat_cmp a.us b.us) (ranked a.us b.us (nat_cmp a.us b.us) refl)
+  where
+    go : (o : Ordering) → MatchOrdering o (a.us < b.us) (a.us ≡ b.us) (b.us < a.us) → (min_by_ordering o a b).us ≡ min a.us b.us
+    go Less h = omega (arith, h)
+    go Equal h = omega (arith, h)
+    go Greater h = omega (arith, h)
+
+earliest : (a : Moment) (l : List Moment) → Some (fold earlier a l) ≡ moved_of (less (least (map (λ (m : Moment). m.us) l)) a.us)
+earliest a [] = refl
+earliest a (b ∷ l) =
+    let o = least (map (λ (m : Moment). m.us) l) in
+    earliest (earlier a b) l ∙ ap moved_of (ap (less o) (earlier_us a b) ∙ less_min o a.us b.us)
+
+pub next_of : (l : List Deadline) → reduce (λ (a b : Moment). min_by_ordering (nat_cmp a.us b.us) a b) (filter_map (λ (d : Deadline). moved_of (deadline_view d)) l) ≡ moved_of (least (somes (map deadline_view l)))
+unfolding earlier
+next_of l = go (filter_map (λ (d : Deadline). moved_of (deadline_view d)) l) ∙ ap (λ (ns : List ℕ). moved_of (least ns)) (moments l)
+  where
+    go : (ms : List Moment) → reduce earlier ms ≡ moved_of (least (map (λ (m : Moment). m.us) ms))
+    go [] = refl
+    go (a ∷ ms) = earliest a ms
+
+-- ---- the names
+
+-- a number below nine names the timer that has it; any other is refused
+pub named : (n : ℕ) → MatchResult (timer_named n) (λ t. (is_timer n ≡ true) × (number_of t ≡ n)) (λ e. (is_timer n ≡ false) × (e ≡ Malformed))
+named n = search rules
+
+-- no timer is left out
+pub names_all : (t : Timer) → timer_named (number_of t) ≡ Ok t
+names_all LossDetection = refl
+names_all Ack = refl
+names_all Pacer = refl
+names_all Idle = refl
+names_all Handshake = refl
+names_all Draining = refl
+names_all KeyDiscard = refl
+names_all KeepAlive = refl
+names_all PathChallenge = refl
+
+-- ---- formed, as a chain over the table tests it
+
+fold_all : {A : Type 0} (p : A → Bool) (ok : Bool) (l : List A) → fold (λ (b : Bool) (a : A). b && p a) ok l ≡ (ok && all p l)
+fold_all p ok [] = sym (and-true ok)
+fold_all p ok (x ∷ xs) = fold_all p (ok && p x) xs ∙ and_assoc ok (p x) (all p xs)
+
+pub formed_by : (t : TimerTable) → length t.expires ≡ timer_count → fold (λ (b : Bool) (d : Deadline). b && deadline_formed_of d) true t.expires ≡ well_formed t
+formed_by t n = fold_all deadline_formed_of true t.expires ∙ sym (past_all deadline_formed_of timer_count 0 t.expires n)
 
 -- ---- expired
 

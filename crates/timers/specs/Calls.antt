@@ -1,5 +1,5 @@
 -- The published calls of the timers: refusal 1 where the table is not well formed, the timer is none of the nine, or the moment is too late; then nothing changed.
-use Rattle.std.specs.Prelude.{ℕ, Bool, false, cond, ◌&&◌, ltb}
+use Rattle.std.specs.Prelude.{Result, Ok, Err, ℕ, Bool, false, cond, ◌&&◌, ltb}
 use Rattle.std.proofs.Math.Option.{none}
 use Rattle.values.specs.Limits.{timer_count}
 use Rattle.values.specs.declared.time.Moment.{Moment}
@@ -7,6 +7,8 @@ use Rattle.values.specs.declared.answers.Flagged.{Flagged}
 use Rattle.values.specs.declared.answers.Timed.{Timed}
 use Rattle.values.specs.Time.{moment_formed_of}
 use Rattle.values.specs.Answers.{flagged_at, timed_at}
+use Rattle.values.specs.Refusals.{number}
+use Rattle.values.specs.declared.refusals.Refusal.{Refusal}
 use Rattle.timers.specs.declared.table.TimerTable.{TimerTable}
 use Rattle.timers.specs.declared.table.TimersOut.{TimersOut}
 use Rattle.timers.specs.Timers.{well_formed, view, timers_of, fresh_timers, set_timer, stop_timer, get_timer, next_timeout, expired}
@@ -18,6 +20,11 @@ is_timer timer = ltb timer timer_count
 
 abbrev pub out_at : ℕ → TimerTable → TimersOut
 out_at refusal t = record { timers = t; answer = record { refusal = refusal } }
+
+-- the table that a call leaves: refused, the one that it found
+abbrev pub out_of : TimerTable → Result TimerTable Refusal → TimersOut
+out_of t (Ok u) = out_at 0 u
+out_of t (Err e) = out_at (number e) t
 
 -- ---- the calls
 

@@ -1,3 +1,4 @@
+pub mod Names
 pub mod Timers
 pub mod Calls
 pub mod Runs

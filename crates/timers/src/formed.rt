@@ -3,18 +3,12 @@ ghost use Rattle.std.specs.Prelude.{◌≡◌};
 ghost use Rattle.timers.specs.Timers.{well_formed};
 
 use crate::table::TimerTable;
-use values::limits::TIMER_SLOTS;
 
-pub fn formed(t: TimerTable) -> bool
-    ensures { result ≡ well_formed t }
+// All nine are tested whatever the first ones are, so that the loop is unrolled without a branch.
+pub fn formed(t: &TimerTable) -> bool
+    ensures { result ≡ well_formed t.now }
 {
-    let mut ok = true;
-    let mut i: usize = 0;
-    while i < TIMER_SLOTS {
-        let d = t.expires[i];
-        let z = values::deadline_formed(d);
-        ok = ok & z;
-        i += 1;
-    }
-    ok
+    t.expires
+        .iter()
+        .fold(true, |ok, d| ok & values::deadline_formed(*d))
 }

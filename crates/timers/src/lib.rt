@@ -5,6 +5,7 @@ mod calls;
 mod formed;
 mod steps;
 mod table;
+mod tested;
 
 pub use calls::{clear, fresh, get, is_expired, next_timeout, set, stop};
-pub use table::{TimerTable, TimersOut};
+pub use table::{Timer, TimerTable, TimersOut};

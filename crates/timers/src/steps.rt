@@ -1,75 +1,43 @@
 // What the calls do to a table that is well formed, once the arguments have their forms.
-ghost use Rattle.std.specs.Prelude.{◌≡◌, true, ◌<◌};
-ghost use Rattle.timers.specs.Timers.{expired, get_timer, next_timeout, set_timer, sooner_of, stop_timer, timers_of, view, well_formed};
-ghost use Rattle.values.specs.Limits.{timer_count};
-ghost use Rattle.values.specs.Time.{deadline_of};
+ghost use Rattle.std.specs.Prelude.{◌≡◌};
+ghost use Rattle.timers.specs.Timers.{expired, get_timer, next_timeout, set_timer, stop_timer, timers_of, view};
+ghost use Rattle.timers.specs.Names.{number_of};
+ghost use Rattle.values.specs.Time.{moved_of};
 
-use crate::table::TimerTable;
+use crate::table::{Timer, TimerTable};
+use crate::tested::FormedTimers;
 use values::{Deadline, Moment};
 
-pub fn set_step(t: TimerTable, timer: u64, at: Moment) -> TimerTable
-    requires { (well_formed t ≡ true) × (timer < timer_count) }
-    ensures { result ≡ timers_of (set_timer timer at.us (view t)) }
+pub fn set_step(t: FormedTimers<'_>, timer: Timer, at: Moment) -> TimerTable
+    ensures { result ≡ timers_of (set_timer (number_of timer) at.us (view t.entry.table.now)) }
 {
-    let mut u = t;
-    let i = timer as usize;
-    u.expires[i] = Deadline { at: at, set: true };
+    let mut u = *t.table;
+    u.expires[timer as usize] = Deadline::from(Some(at));
     u
 }
 
-pub fn stop_step(t: TimerTable, timer: u64) -> TimerTable
-    requires { (well_formed t ≡ true) × (timer < timer_count) }
-    ensures { result ≡ timers_of (stop_timer timer (view t)) }
+pub fn stop_step(t: FormedTimers<'_>, timer: Timer) -> TimerTable
+    ensures { result ≡ timers_of (stop_timer (number_of timer) (view t.entry.table.now)) }
 {
-    let mut u = t;
-    let i = timer as usize;
-    u.expires[i] = Deadline {
-        at: Moment { us: 0 },
-        set: false,
-    };
+    let mut u = *t.table;
+    u.expires[timer as usize] = Deadline::from(None);
     u
 }
 
-pub fn get_step(t: TimerTable, timer: u64) -> Deadline
-    requires { (well_formed t ≡ true) × (timer < timer_count) }
-    ensures { result ≡ deadline_of (get_timer timer (view t)) }
+pub fn get_step(t: FormedTimers<'_>, timer: Timer) -> Option<Moment>
+    ensures { result ≡ moved_of (get_timer (number_of timer) (view t.entry.table.now)) }
 {
-    let i = timer as usize;
-    let d = t.expires[i];
-    d
+    t.table.expires[timer as usize].moment()
 }
 
-// The sooner of two deadlines; one that isn't set counts for nothing.
-fn sooner(best: Deadline, d: Deadline) -> Deadline
-    ensures { result ≡ sooner_of best d }
+pub fn next_step(t: FormedTimers<'_>) -> Option<Moment>
+    ensures { result ≡ moved_of (next_timeout (view t.entry.table.now)) }
 {
-    let first = values::moment_before(d.at, best.at);
-    let take = d.set & (!best.set | first);
-    if take { d } else { best }
+    t.table.expires.iter().filter_map(|d| d.moment()).min()
 }
 
-pub fn next_step(t: TimerTable) -> Deadline
-    requires { well_formed t ≡ true }
-    ensures { result ≡ deadline_of (next_timeout (view t)) }
+pub fn expired_step(t: FormedTimers<'_>, timer: Timer, now: Moment) -> bool
+    ensures { result ≡ expired (number_of timer) now.us (view t.entry.table.now) }
 {
-    let mut best = Deadline {
-        at: Moment { us: 0 },
-        set: false,
-    };
-    let mut i: usize = 0;
-    while i < 9 {
-        let d = t.expires[i];
-        best = sooner(best, d);
-        i += 1;
-    }
-    best
-}
-
-pub fn expired_step(t: TimerTable, timer: u64, now: Moment) -> bool
-    requires { (well_formed t ≡ true) × (timer < timer_count) }
-    ensures { result ≡ expired timer now.us (view t) }
-{
-    let d = get_step(t, timer);
-    let passed = values::moment_not_after(d.at, now);
-    d.set & passed
+    get_step(t, timer).is_some_and(|at| at <= now)
 }

@@ -11,27 +11,20 @@ pub fn set(t: TimerTable, timer: u64, at: Moment) -> TimersOut
     ensures { result ≡ set_call t timer at }
 {
     let mut u = t;
-    let d = timers_lent::set(&mut u, timer, at);
-    TimersOut {
-        timers: u,
-        answer: d,
-    }
+    let answer = timers_lent::set(&mut u, timer, at);
+    TimersOut { timers: u, answer }
 }
 
 pub fn stop(t: TimerTable, timer: u64) -> TimersOut
     ensures { result ≡ stop_call t timer }
 {
     let mut u = t;
-    let d = timers_lent::stop(&mut u, timer);
-    TimersOut {
-        timers: u,
-        answer: d,
-    }
+    let answer = timers_lent::stop(&mut u, timer);
+    TimersOut { timers: u, answer }
 }
 
 pub fn next_timeout(t: TimerTable) -> Timed
     ensures { result ≡ next_timeout_call t }
 {
-    let u = t;
-    timers_lent::next_timeout(&u)
+    timers_lent::next_timeout(&t)
 }

@@ -1,9 +1,13 @@
 -- docs/RULES.md, "Refusals": every refusal with its number and the transport error code of RFC 9000, 20.1 that it has on the wire.
-use Rattle.std.specs.Prelude.{ℕ, ◌≡◌, refl, List, [], ◌∷◌, eqb}
+use Rattle.std.specs.Prelude.{Result, Ok, Err, ⊤, Bool, true, false, ℕ, ◌≡◌, refl, List, [], ◌∷◌, eqb}
 use Rattle.lists.specs.Defs.{first, maybe}
+use Rattle.values.specs.declared.refusals.Refusal.{Refusal}
+use Rattle.values.specs.declared.refusals.Refusal.TheVariants.{Malformed, InternalError, ConnectionIdLimitError, ProtocolViolation, Done, NoSlot, Spent, FarDeadline}
 
-pub data Refusal : Type 0 where
-  Malformed InternalError ConnectionIdLimitError ProtocolViolation Done NoSlot Spent FarDeadline : Refusal
+-- what comes of a test of forms
+abbrev pub form_of : Bool → Result ⊤ Refusal
+form_of true = Ok tt
+form_of false = Err Malformed
 
 abbrev pub number : Refusal → ℕ
 number Malformed = 1

@@ -6,7 +6,7 @@ ghost use Rattle.values.specs.Token.{same_token};
 use crate::limits::TOKEN_LEN;
 use crate::token::Token;
 
-// By refusal number; 0 is no refusal and has no code of its own.
+// By refusal number; 0 is no refusal and has no code of its own. A constant table, as RULES.md's "Named forms" asks.
 const WIRE_CODES: [u64; 9] = [0x01, 0x01, 0x01, 0x09, 0x0a, 0x00, 0x01, 0x01, 0x01];
 
 // The transport error code of RFC 9000, 20.1 that a connection closed for a refusal carries; INTERNAL_ERROR for any other number.
@@ -14,8 +14,7 @@ pub fn wire_code(number: u64) -> u64
     ensures { result ≡ wire_code_of number }
 {
     if number < 9 {
-        let n = number as usize;
-        return WIRE_CODES[n];
+        return WIRE_CODES[number as usize];
     }
     0x01
 }
@@ -25,11 +24,9 @@ pub fn wire_code(number: u64) -> u64
 pub fn token_matches(a: Token, b: Token) -> bool
     ensures { result ≡ same_token a b }
 {
-    let mut differences: u8 = 0;
-    let mut i: usize = 0;
-    while i < TOKEN_LEN {
-        differences = differences | (a.bytes[i] ^ b.bytes[i]);
-        i += 1;
+    let mut differences = 0;
+    for i in 0..TOKEN_LEN {
+        differences |= a.bytes[i] ^ b.bytes[i];
     }
     let presence = (a.present as u8) ^ (b.present as u8);
     (presence | differences) == 0

@@ -1,54 +1,39 @@
--- The tests are the definition's; a source sequence is below next, so the one after the lowest fits.
-use Rattle.std.specs.Prelude.{refl, true, false}
-use Rattle.std.proofs.Common.{sym, ap, not, ◌∙◌, arith, lt-ltb, le-ltb, le-leb}
-use Rattle.std.proofs.Math.Option.{none}
-use Rattle.std.proofs.lemmas.Bool.{lt-leb}
-use Rattle.ids.specs.IssueLaws.{lowest_below, keeps_issued, adds, add_is}
-use Rattle.ids.specs.Reading.{issued_of}
-use Rattle.ids.specs.ReadingLaws.{source_well}
-use Rattle.ids_state.proofs.Laws.{facts}
-use Rattle.tables.specs.Laws.{lowest_at, lowest_none}
-use Rattle.tables.specs.Table.{live}
-use Rattle.tables.specs.Table as T
+-- The item is issued with what was asked for; refused, nothing is changed.
+use Rattle.std.specs.Prelude.{◌≡◌, refl, ℕ, true, Option as Optional, Some, None}
+use Rattle.std.proofs.Math.Option.{Option}
+use Rattle.std.proofs.Common.{sym, ap, ◌∙◌}
+use Rattle.lists.specs.Defs.{given, present}
+use Rattle.values.specs.Refusals.{number}
+use Rattle.values.specs.Token.{token_view}
+use Rattle.ids_rules.specs.Steps as S
+use Rattle.ids_rules.specs.With.{with_retire_prior_to}
+use Rattle.ids.specs.IssueLaws.{keeps_issued}
+use Rattle.ids.specs.Reading.{issued_of, path_formed_of, path_of, view}
+use Rattle.ids.specs.Results.{option_of}
+use Rattle.tables.specs.declared.items.Item as I
 use Rattle.ids.proofs.issues.add_scid_step.Goals as goal
 
-pub returns-then-s : goal.returns-then-s
-returns-then-s c =
-    keeps_issued c.args.s c.requires.0 2 (adds c.args.s c.requires.0 c.args.cid c.args.token c.args.advertise c.args.has_path c.args.path c.args.retire_if_needed) (add_is c.args.s c.requires.0 c.args.cid c.args.token c.args.advertise c.args.has_path c.args.path c.args.retire_if_needed true _ _ _ _ c.if-s.true refl refl refl refl) _ c.none_issued.ensures
+-- the path of an item that was made with it
+with_path : (p : Optional ℕ) → given (present (option_of p)) (path_of (option_of p)) ≡ option_of p
+with_path None = refl
+with_path (Some n) = refl
 
-pub returns-then-s-ge-MAX_SEQUENCE : goal.returns-then-s-ge-MAX_SEQUENCE
-returns-then-s-ge-MAX_SEQUENCE c =
-    keeps_issued c.args.s c.requires.0 7 (adds c.args.s c.requires.0 c.args.cid c.args.token c.args.advertise c.args.has_path c.args.path c.args.retire_if_needed) (add_is c.args.s c.requires.0 c.args.cid c.args.token c.args.advertise c.args.has_path c.args.path c.args.retire_if_needed false true _ _ _ c.if-s.false (le-leb _ _ c.if-s-ge-MAX_SEQUENCE.true) refl refl refl) _ c.none_issued-then-s-ge-MAX_SEQUENCE.ensures
+of_form : (p : Optional ℕ) → path_formed_of (present (option_of p)) (path_of (option_of p)) ≡ true
+of_form None = refl
+of_form (Some n) = refl
 
 pub issue_step-requires : goal.issue_step-requires
-issue_step-requires c = (c.requires.0, refl, c.requires.1, c.requires.2)
+issue_step-requires c = rw c.item-x.ensures (refl, c.requires, of_form c.args.path)
 
-pub returns-then-n-s : goal.returns-then-n-s
-returns-then-n-s c =
-    c.issue_step.ensures ∙ sym (ap issued_of (add_is c.args.s c.requires.0 c.args.cid c.args.token c.args.advertise c.args.has_path c.args.path c.args.retire_if_needed false false true _ _ c.if-s.false (lt-leb _ _ c.if-s-ge-MAX_SEQUENCE.false) (lt-ltb _ _ c.if-n-s.true) refl refl))
+pub returns-in-Ok : goal.returns-in-Ok
+returns-in-Ok c =
+    let v = view c.args.f.ids.now in
+    let w = with_retire_prior_to c.in-Ok.retire_prior_to v in
+    c.issue_step.ensures
+    ∙ ap (λ (x : I.Item). issued_of (S.issue x.cid (token_view x.token) c.args.advertise (given x.has_path x.path) v w)) c.item-x.ensures
+    ∙ ap (λ (p : Option ℕ). issued_of (S.issue c.args.cid (token_view c.args.token) c.args.advertise p v w)) (with_path c.args.path)
+    ∙ sym (ap issued_of (c.in-Ok.ensures c.args.cid (token_view c.args.token) c.args.advertise (option_of c.args.path)))
 
-pub returns-then-not-retire_if_needed : goal.returns-then-not-retire_if_needed
-returns-then-not-retire_if_needed c =
-    keeps_issued c.args.s c.requires.0 3 (adds c.args.s c.requires.0 c.args.cid c.args.token c.args.advertise c.args.has_path c.args.path c.args.retire_if_needed) (add_is c.args.s c.requires.0 c.args.cid c.args.token c.args.advertise c.args.has_path c.args.path c.args.retire_if_needed false false false true _ c.if-s.false (lt-leb _ _ c.if-s-ge-MAX_SEQUENCE.false) (le-ltb _ _ c.if-n-s.false) (ap not c.if-not-retire_if_needed.true) refl) _ c.none_issued-then-not-retire_if_needed.ensures
-
-pub lowest_from-low-requires : goal.lowest_from-low-requires
-lowest_from-low-requires c = source_well c.args.s c.requires.0
-
-pub overflow_add-m : goal.overflow_add-m
-overflow_add-m c =
-    let f = facts c.args.s c.requires.0 in
-    let h = lowest_below (T.at_least c.args.s.retire_prior_to) c.args.s.next_scid_seq _ (live c.args.s.scids) f.rises (lowest_at _ _ (sym c.lowest_from-low.ensures ∙ c.in-Seq.is)) in
-    omega (arith, f.bounds.next_most)
-
-pub issue_step-requires-in-Seq : goal.issue_step-requires-in-Seq
-issue_step-requires-in-Seq c = (c.requires.0, refl, c.requires.1, c.requires.2)
-
-pub returns-in-Seq : goal.returns-in-Seq
-returns-in-Seq c =
-    let o = lowest_at _ _ (sym c.lowest_from-low.ensures ∙ c.in-Seq.is) in
-    c.issue_step-in-Seq.ensures ∙ sym (ap issued_of (add_is c.args.s c.requires.0 c.args.cid c.args.token c.args.advertise c.args.has_path c.args.path c.args.retire_if_needed false false false false _ c.if-s.false (lt-leb _ _ c.if-s-ge-MAX_SEQUENCE.false) (le-ltb _ _ c.if-n-s.false) (ap not c.if-not-retire_if_needed.false) o))
-
-pub returns-in-Missing : goal.returns-in-Missing
-returns-in-Missing c =
-    let o = lowest_none _ (sym c.lowest_from-low.ensures ∙ c.in-Missing.is) in
-    keeps_issued c.args.s c.requires.0 2 (adds c.args.s c.requires.0 c.args.cid c.args.token c.args.advertise c.args.has_path c.args.path c.args.retire_if_needed) (add_is c.args.s c.requires.0 c.args.cid c.args.token c.args.advertise c.args.has_path c.args.path c.args.retire_if_needed false false false false none c.if-s.false (lt-leb _ _ c.if-s-ge-MAX_SEQUENCE.false) (le-ltb _ _ c.if-n-s.false) (ap not c.if-not-retire_if_needed.false) o) _ c.none_issued-in-Missing.ensures
+pub returns-in-Err : goal.returns-in-Err
+returns-in-Err c =
+    keeps_issued c.args.f.ids.now c.args.f.well (number c.in-Err.refusal) _ (c.in-Err.ensures c.args.cid (token_view c.args.token) c.args.advertise (option_of c.args.path)) _ c.none_issued.ensures

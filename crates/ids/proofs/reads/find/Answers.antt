@@ -1,19 +1,19 @@
--- The place of the first item with the ID is that of the definition's first.
-use Rattle.std.proofs.Common.{◌∙◌}
-use Rattle.ids.specs.ReadLaws.{find_0, find_none}
-use Rattle.tables.specs.Laws.{sought_at, sought_item, sought_none}
+-- The place that the search gives is that of the definition's first.
+use Rattle.std.proofs.Common.{ap, ◌∙◌, arith}
+use Rattle.std.specs.Prelude.{Ok}
+use Rattle.ids.specs.ReadLaws.{first_is, first_missing, first_within, find_ok, find_err}
+use Rattle.ids.specs.Results.{found_answer}
 use Rattle.tables.specs.Table as T
 use Rattle.ids.proofs.reads.find.Goals as goal
 
-pub seek_cid-f-requires : goal.seek_cid-f-requires
-seek_cid-f-requires c = c.requires.0
+pub returns-in_err-i : goal.returns-in_err-i
+returns-in_err-i c = ap (λ r. found_answer (Ok r)) c.from_residual.ensures ∙ find_err c.args.items.now c.args.cid (first_missing (T.has_cid c.args.cid) c.args.items.now c.in_err-i.ensures)
 
-pub returns-then-f : goal.returns-then-f
-returns-then-f c =
-    let e = c.seek_cid-f.ensures in
-    let p = c.if-f.true in
-    find_0 c.args.t c.requires.0 c.requires.1 c.args.cid _ _ (sought_at c.args.t (T.has_cid c.args.cid) _ e p) (sought_item c.args.t (T.has_cid c.args.cid) _ e p)
+pub offset_bounds-items-i : goal.offset_bounds-items-i
+offset_bounds-items-i c = omega (arith, first_within (T.has_cid c.args.cid) c.args.items.now c.in_ok-i.i c.in_ok-i.ensures, c.well_formed)
+
+pub bounds-items-i : goal.bounds-items-i
+bounds-items-i c = first_within (T.has_cid c.args.cid) c.args.items.now c.in_ok-i.i c.in_ok-i.ensures
 
 pub returns : goal.returns
-returns c =
-    c.not_found.ensures ∙ find_none c.args.t c.requires.0 c.requires.1 c.args.cid (sought_none c.args.t (T.has_cid c.args.cid) _ c.seek_cid-f.ensures c.if-f.false)
+returns c = find_ok c.args.items.now c.args.cid c.requires _ (first_is (T.has_cid c.args.cid) _ c.args.items.now c.in_ok-i.i c.in_ok-i.ensures)

@@ -1,24 +1,22 @@
 -- The item at the place, and whether it has a token, are the definition's two cases.
-use Rattle.std.specs.Prelude.{true, false}
+use Rattle.std.specs.Prelude.{◌≡◌, true, false}
 use Rattle.std.proofs.lemmas.Bool.{not-true, not-false}
-use Rattle.std.proofs.Common.{◌∙◌}
-use Rattle.ids.specs.ReadLaws.{frame_some, frame_none}
-use Rattle.tables.specs.Laws.{sought_at, sought_item, sought_none}
-use Rattle.tables.specs.Table as T
+use Rattle.std.proofs.Common.{ap, subst, ◌∙◌}
+use Rattle.ids.specs.ReadLaws.{sought_ok, sought_err, passed_on, frame_ok, frame_err}
+use Rattle.ids.specs.Results.{frame_answer}
+use Rattle.std.specs.Result.{IsErrAnd}
+use Rattle.values.specs.declared.refusals.Refusal.{Refusal}
+use Rattle.values.specs.declared.refusals.Refusal.TheVariants.{InternalError}
 use Rattle.ids.proofs.reads.frame.Goals as goal
 
-pub returns-then-not-k : goal.returns-then-not-k
-returns-then-not-k c =
-    let e = c.seek_seq-f.ensures in
-    let p = c.if-f.true in
-    c.no_frame.ensures ∙ frame_some c.args.t c.args.retire_prior_to c.args.seq _ _ false (sought_at c.args.t (T.has_seq c.args.seq) _ e p) (sought_item c.args.t (T.has_seq c.args.seq) _ e p) (not-true _ c.if-not-k.true)
+pub returns-in_err-x : goal.returns-in_err-x
+returns-in_err-x c =
+    let w = sought_err InternalError _ c.with_seq.result c.with_seq.ensures c.in_err-x.field-0.0 c.in_err-x.ensures.value in
+    ap frame_answer (passed_on c.from_residual.result InternalError (subst (λ (e : Refusal). IsErrAnd c.from_residual.result (λ x. x ≡ e)) w.1 c.from_residual.ensures.1))
+    ∙ frame_err c.args.items.now c.args.seq c.args.retire_prior_to w.0
 
-pub returns-then-f : goal.returns-then-f
-returns-then-f c =
-    let e = c.seek_seq-f.ensures in
-    let p = c.if-f.true in
-    frame_some c.args.t c.args.retire_prior_to c.args.seq _ _ true (sought_at c.args.t (T.has_seq c.args.seq) _ e p) (sought_item c.args.t (T.has_seq c.args.seq) _ e p) (not-false _ c.if-not-k.false)
+pub returns-then-not-x : goal.returns-then-not-x
+returns-then-not-x c = frame_ok c.args.items.now c.args.seq c.args.retire_prior_to c.in_ok-x.x false (sought_ok InternalError _ c.with_seq.result c.with_seq.ensures c.in_ok-x.x c.in_ok-x.ensures.value) (not-true _ c.if-not-x.true)
 
 pub returns : goal.returns
-returns c =
-    c.no_frame-2.ensures ∙ frame_none c.args.t c.args.retire_prior_to c.args.seq (sought_none c.args.t (T.has_seq c.args.seq) _ c.seek_seq-f.ensures c.if-f.false)
+returns c = frame_ok c.args.items.now c.args.seq c.args.retire_prior_to c.in_ok-x.x true (sought_ok InternalError _ c.with_seq.result c.with_seq.ensures c.in_ok-x.x c.in_ok-x.ensures.value) (not-false _ c.if-not-x.false)

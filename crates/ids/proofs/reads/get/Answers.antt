@@ -1,19 +1,18 @@
--- The place of the first item with the sequence is that of the definition's first.
-use Rattle.std.proofs.Common.{◌∙◌}
-use Rattle.ids.specs.ReadLaws.{get_0, get_2}
-use Rattle.tables.specs.Laws.{sought_at, sought_item, sought_none}
-use Rattle.tables.specs.Table as T
+-- The place that the search gives is that of the definition's first.
+use Rattle.std.proofs.Common.{ap, subst, ◌∙◌}
+use Rattle.ids.specs.ReadLaws.{sought_ok, sought_err, passed_on, get_ok, get_err}
+use Rattle.ids.specs.Results.{item_answer}
+use Rattle.std.specs.Prelude.{◌≡◌}
+use Rattle.std.specs.Result.{IsErrAnd}
+use Rattle.values.specs.declared.refusals.Refusal.{Refusal}
+use Rattle.values.specs.declared.refusals.Refusal.TheVariants.{InternalError}
 use Rattle.ids.proofs.reads.get.Goals as goal
 
-pub seek_seq-f-requires : goal.seek_seq-f-requires
-seek_seq-f-requires c = c.requires.0
-
-pub returns-then-f : goal.returns-then-f
-returns-then-f c =
-    let e = c.seek_seq-f.ensures in
-    let p = c.if-f.true in
-    get_0 c.args.t c.requires.0 c.requires.1 c.args.seq _ _ (sought_at c.args.t (T.has_seq c.args.seq) _ e p) (sought_item c.args.t (T.has_seq c.args.seq) _ e p)
+pub returns-in_err-x : goal.returns-in_err-x
+returns-in_err-x c =
+    let w = sought_err InternalError _ c.with_seq.result c.with_seq.ensures c.in_err-x.field-0.0 c.in_err-x.ensures.value in
+    ap item_answer (passed_on c.from_residual.result InternalError (subst (λ (e : Refusal). IsErrAnd c.from_residual.result (λ x. x ≡ e)) w.1 c.from_residual.ensures.1))
+    ∙ get_err c.args.items.now c.args.seq w.0
 
 pub returns : goal.returns
-returns c =
-    c.no_item.ensures ∙ get_2 c.args.t c.requires.0 c.requires.1 c.args.seq (sought_none c.args.t (T.has_seq c.args.seq) _ c.seek_seq-f.ensures c.if-f.false)
+returns c = get_ok c.args.items.now c.args.seq c.requires c.in_ok-x.x (sought_ok InternalError _ c.with_seq.result c.with_seq.ensures c.in_ok-x.x c.in_ok-x.ensures.value)

@@ -1,20 +1,34 @@
-use Rattle.path.specs.TimeoutLaws.{going_first, going_less, next_well, going_next, going_lost, going_done}
+use Rattle.std.proofs.Common.{sym, ◌∙◌}
+use Rattle.lists.specs.Bools.{and_left}
+use Rattle.path.specs.TimeoutLaws.{going_first, going_less, going_lost, going_next, going_done, timeout_stays}
 use Rattle.path.proofs.timeouts.timed_out.Goals as goal
 
-pub loop-going-init : goal.loop-going-init
-loop-going-init c = going_first c.args.now.us c.args.x c.requires _ c.overdue-going.ensures
+pub returns-then-not-probing : goal.returns-then-not-probing
+returns-then-not-probing c =
+    sym (timeout_stays c.args.now.us c.args.x.path.now c.args.x.well (and_left _ _ (sym c.probing.ensures ∙ c.if-not-probing.true)))
+
+pub loop-now-init : goal.loop-now-init
+loop-now-init c = going_first c.args.now.us c.args.x.path.now c.args.x.well
+
+pub front_late-requires : goal.front_late-requires
+front_late-requires c = c.loop-now.invariant.known.well
 
 pub front_lost-u-requires : goal.front_lost-u-requires
-front_lost-u-requires c = let o = c.loop-going in (o.invariant.known, going_lost c.args.now.us c.args.x _ _ o.invariant c.loop-going-test.true)
+front_lost-u-requires c =
+    let o = c.loop-now in
+    (o.invariant.known, going_lost c.args.now.us c.args.x.path.now o.u o.invariant (sym c.front_late.ensures ∙ c.loop-now-test.true))
 
-pub front_late-going-requires : goal.front_late-going-requires
-front_late-going-requires c = let o = c.loop-going in next_well c.args.now.us c.args.x _ _ o.invariant c.loop-going-test.true _ c.front_lost-u.ensures
+pub loop-now-smaller : goal.loop-now-smaller
+loop-now-smaller c =
+    let o = c.loop-now in
+    going_less c.args.now.us c.args.x.path.now o.u o.invariant (sym c.front_late.ensures ∙ c.loop-now-test.true) _ c.front_lost-u.ensures
 
-pub loop-going-smaller : goal.loop-going-smaller
-loop-going-smaller c = let o = c.loop-going in going_less c.args.now.us c.args.x _ _ o.invariant c.loop-going-test.true _ c.front_lost-u.ensures
-
-pub loop-going-preserved : goal.loop-going-preserved
-loop-going-preserved c = let o = c.loop-going in going_next c.args.now.us c.args.x _ _ o.invariant c.loop-going-test.true _ c.front_lost-u.ensures _ c.front_late-going.ensures
+pub loop-now-preserved : goal.loop-now-preserved
+loop-now-preserved c =
+    let o = c.loop-now in
+    going_next c.args.now.us c.args.x.path.now o.u o.invariant (sym c.front_late.ensures ∙ c.loop-now-test.true) _ c.front_lost-u.ensures
 
 pub returns : goal.returns
-returns c = let o = c.loop-going in going_done c.args.now.us c.args.x _ _ o.invariant c.loop-going-test.false
+returns c =
+    let o = c.loop-now in
+    going_done c.args.now.us c.args.x.path.now o.u o.invariant (sym c.probing.ensures ∙ c.if-not-probing.false) (sym c.front_late.ensures ∙ c.loop-now-test.false)

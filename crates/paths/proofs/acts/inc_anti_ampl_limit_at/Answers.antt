@@ -1,16 +1,9 @@
--- What `look` finds, changed where the call is not refused.
-use Rattle.std.specs.Prelude.{true}
-use Rattle.std.proofs.Common.{sym, ◌∙◌}
-use Rattle.std.proofs.Math.Bool.{and-true}
-use Rattle.lists.specs.Bools.{and_both}
-use Rattle.paths.specs.ActLaws.{look_formed, puts_credit}
-use Rattle.paths_state.specs.Formed.{well_formed}
+-- The path that was found, changed.
+use Rattle.std.specs.Prelude.{refl, true}
+use Rattle.std.proofs.Common.{rules}
+use Rattle.paths.specs.ActLaws.{puts_excused}
+use Rattle.paths_rules.specs.Calls.{Credit}
 use Rattle.paths.proofs.acts.inc_anti_ampl_limit_at.Goals as goal
 
-pub gained-y-requires : goal.gained-y-requires
-gained-y-requires c =
-    λ z. look_formed c.args.t c.args.id _ c.look-k.ensures (true) _ (c.look-k.ensures.formed ∙ sym (and-true (well_formed c.args.t))) _ c.refusal-n.ensures (and_both _ _ z).0
-
 pub returns : goal.returns
-returns c =
-    puts_credit c.args.t c.args.id _ c.look-k.ensures (true) _ (c.look-k.ensures.formed ∙ sym (and-true (well_formed c.args.t))) _ c.refusal-n.ensures _ c.args.length c.gained-y.ensures _ c.excused-m.ensures
+returns c = puts_excused c.args.t true c.args.id (Credit c.args.length) _ (λ x. x.path.now) _ _ (λ x k. search rules) c.found.ensures c.left_or_excused.ensures refl

@@ -1,16 +1,9 @@
--- What `look` finds, changed where the call is not refused.
+-- The path that was found, changed.
 use Rattle.std.specs.Prelude.{refl, true}
-use Rattle.std.proofs.Common.{sym, ◌∙◌}
-use Rattle.std.proofs.Math.Bool.{and-true}
-use Rattle.paths.specs.ActLaws.{look_formed, puts}
+use Rattle.std.proofs.Common.{rules}
+use Rattle.paths.specs.ActLaws.{puts}
 use Rattle.paths_rules.specs.Calls.{Verify}
-use Rattle.paths_state.specs.Formed.{well_formed}
 use Rattle.paths.proofs.acts.mark_verified_at.Goals as goal
 
-pub verified-y-requires : goal.verified-y-requires
-verified-y-requires c =
-    look_formed c.args.t c.args.id _ c.look-k.ensures (true) _ (c.look-k.ensures.formed ∙ sym (and-true (well_formed c.args.t))) _ c.refusal-n.ensures
-
 pub returns : goal.returns
-returns c =
-    puts c.args.t c.args.id _ c.look-k.ensures (true) _ (c.look-k.ensures.formed ∙ sym (and-true (well_formed c.args.t))) _ c.refusal-n.ensures _ (Verify) c.verified-y.ensures refl
+returns c = puts c.args.t true c.args.id Verify _ (λ x. x.path.now) _ _ (λ x k. search rules) c.found.ensures c.left.ensures refl

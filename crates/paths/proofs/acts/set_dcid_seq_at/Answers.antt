@@ -1,16 +1,11 @@
--- What `look` finds, changed where the call is not refused.
-use Rattle.std.specs.Prelude.{refl, Bool, ◌&&◌}
-use Rattle.std.proofs.Common.{ap}
+-- The path that was found, changed.
+use Rattle.std.specs.Prelude.{refl}
+use Rattle.std.proofs.Common.{rules}
 use Rattle.lists.specs.Defs.{given}
-use Rattle.paths.specs.ActLaws.{look_formed, puts, seq_asked}
-use Rattle.paths_rules.specs.Calls.{SetDcid}
 use Rattle.paths_state.specs.Formed.{seq_formed}
+use Rattle.paths.specs.ActLaws.{given_is, puts}
+use Rattle.paths_rules.specs.Calls.{SetDcid}
 use Rattle.paths.proofs.acts.set_dcid_seq_at.Goals as goal
 
-pub with_dcid-y-requires : goal.with_dcid-y-requires
-with_dcid-y-requires c =
-    λ z. (look_formed c.args.t c.args.id _ c.look-k.ensures (seq_formed c.args.has_seq c.args.seq) _ (ap (λ (b : Bool). b && seq_formed c.args.has_seq c.args.seq) c.look-k.ensures.formed) _ c.refusal-n.ensures z, seq_asked c.args.t c.args.id _ c.look-k.ensures (seq_formed c.args.has_seq c.args.seq) _ (ap (λ (b : Bool). b && seq_formed c.args.has_seq c.args.seq) c.look-k.ensures.formed) _ c.refusal-n.ensures z)
-
 pub returns : goal.returns
-returns c =
-    puts c.args.t c.args.id _ c.look-k.ensures (seq_formed c.args.has_seq c.args.seq) _ (ap (λ (b : Bool). b && seq_formed c.args.has_seq c.args.seq) c.look-k.ensures.formed) _ c.refusal-n.ensures _ (SetDcid (given c.args.has_seq c.args.seq)) c.with_dcid-y.ensures refl
+returns c = puts c.args.t (seq_formed c.args.has_seq c.args.seq) c.args.id (SetDcid (given c.args.has_seq c.args.seq)) _ (λ x. x.path.now) _ _ (λ x k. search (rules, given_is)) c.found_if-x.ensures c.left.ensures refl

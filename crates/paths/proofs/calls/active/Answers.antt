@@ -1,17 +1,12 @@
--- What `get` answers, read: nothing of a refusal's zero path is seen.
-use Rattle.std.specs.Prelude.{refl, false}
-use Rattle.std.proofs.Common.{ap, ◌∙◌}
-use Rattle.path.specs.Reading.{path_view}
-use Rattle.path.specs.ReadingLaws.{path_of_lem}
-use Rattle.paths.specs.CallLaws.{read_is}
-use Rattle.paths.specs.Reading.{view, flagged_of}
+-- What is seen of the path that was found.
+use Rattle.std.specs.Prelude.{refl}
+use Rattle.std.proofs.Common.{rules}
+use Rattle.paths.specs.CallLaws.{read_map}
+use Rattle.paths.specs.Reading as X
 use Rattle.paths_rules.specs.Calls.{Active}
 use Rattle.paths_rules.specs.Path.{in_use}
-use Rattle.paths_rules.specs.State.{Path}
-use Rattle.paths_rules.specs.Table.{path_at}
-use Rattle.values.specs.Answers.{flagged_at}
+use Rattle.values.specs.Results as Y
 use Rattle.paths.proofs.calls.active.Goals as goal
 
 pub returns : goal.returns
-returns c =
-    ap (flagged_at c.get-a.result.refusal) c.in_use-b.ensures ∙ read_is c.args.t c.args.id _ c.get-a.ensures (λ p. flagged_at p.refusal (in_use (path_view p.path))) flagged_of Active (flagged_at 1 false) refl refl refl (ap (λ (x : Path). flagged_at 0 (in_use x)) (path_of_lem (path_at c.args.id (view c.args.t))))
+returns c = read_map c.args.t c.args.id Y.flagged_of X.flagged_of Active in_use refl refl refl (λ x. x.path.now) _ _ _ _ c.found.ensures c.map.ensures.cases c.from.ensures (λ x v k. search rules)

@@ -1,11 +1,11 @@
--- What `get` answers, read: nothing of a refusal's zero path is seen.
-use Rattle.std.specs.Prelude.{refl, false}
-use Rattle.paths.specs.CallLaws.{read_is}
-use Rattle.paths.specs.Reading.{flagged_of}
+-- What is seen of the path that was found.
+use Rattle.std.specs.Prelude.{refl}
+use Rattle.std.proofs.Common.{rules}
+use Rattle.paths.specs.CallLaws.{read_map}
+use Rattle.paths.specs.Reading as X
 use Rattle.paths_rules.specs.Calls.{Initiated}
-use Rattle.values.specs.Answers.{flagged_at}
+use Rattle.values.specs.Results as Y
 use Rattle.paths.proofs.calls.path_chal_initiated.Goals as goal
 
 pub returns : goal.returns
-returns c =
-    read_is c.args.t c.args.id _ c.get-a.ensures (λ p. flagged_at p.refusal p.path.need_send_challenge) flagged_of Initiated (flagged_at 1 false) refl refl refl refl
+returns c = read_map c.args.t c.args.id Y.flagged_of X.flagged_of Initiated (λ v. v.ask) refl refl refl (λ x. x.path.now) _ _ _ _ c.found.ensures c.map.ensures.cases c.from.ensures (λ x v k. search rules)

@@ -1,37 +1,15 @@
-use Rattle.std.specs.Prelude.{◌<◌, ◌≡◌, refl, Bool, length, take}
-use Rattle.std.proofs.Common.{sym, ap, ap₂, ◌∙◌, arith}
-use Rattle.lists.specs.Defs.{given, picked, least}
-use Rattle.lists.specs.Search.{picked_yes, picked_no, least_more}
-use Rattle.tables.specs.Laws.{table_long}
-use Rattle.tables.specs.Table.{lowest_of, seq_of, free}
+-- What the chain gives is the least of the sequences that pass.
+use Rattle.std.proofs.Common.{rules, tests}
+use Rattle.std.proofs.lemmas.Iterator.{YieldsList-from_slice, YieldsList-from_map}
+use Rattle.std.proofs.lemmas.Iterator.Consumers.{YieldsList-at, YieldsList-from_filter, min_from_yields_List}
+use Rattle.lists.specs.Search.{picked_reduce}
+use Rattle.tables.specs.Table.{seq_of, free}
 use Rattle.tables.proofs.lookup.lowest_free.Goals as goal
-use Rattle.tables.proofs.lookup.lowest_free.Goals.{else-not-x, then-not-x}
 
-pub loop-i-init : goal.loop-i-init
-loop-i-init c = (omega arith, refl)
-
-pub loop-i-preserved : goal.loop-i-preserved
-loop-i-preserved c =
-    let o = c.loop-i in
-    let l = table_long c.args.t c.requires in
+pub returns : goal.returns
+returns c =
+    let l = c.args.items.now in
     let p = free in
-    let k = picked seq_of p (take o.i c.args.t.items) in
-    let h : o.i < length c.args.t.items = omega arith in (
-      omega arith,
-      elim c.if-not-x.branch [
-        | then-not-x w ↦ least_more k _ _ _ o.best o.found o.invariant.1 w.lesser-best.ensures (picked_yes seq_of p _ c.args.t.items o.i h w.if-not-x.true) ∙ sym (ap₂ given w.found-is w.best-is)
-        | else-not-x w ↦ ap least (picked_no seq_of p _ c.args.t.items o.i h w.if-not-x.false) ∙ o.invariant.1 ∙ sym (ap₂ given w.found-is w.best-is)
-      ],
-    )
-
-pub returns-then-found : goal.returns-then-found
-returns-then-found c =
-    let o = c.loop-i in
-    let e : o.i ≡ c.args.t.count = omega arith in
-    sym (ap lowest_of (rw e at o.invariant.1) ∙ ap (λ (f : Bool). lowest_of (given f o.best)) c.if-found.true)
-
-pub returns-else-found : goal.returns-else-found
-returns-else-found c =
-    let o = c.loop-i in
-    let e : o.i ≡ c.args.t.count = omega arith in
-    sym (ap lowest_of (rw e at o.invariant.1) ∙ ap (λ (f : Bool). lowest_of (given f o.best)) c.if-found.false)
+    picked_reduce seq_of p l c.min.result
+    (min_from_yields_List c.map.result _ c.min.ensures.ran
+    (YieldsList-from_map _ seq_of (YieldsList-at c.map.ensures.source (YieldsList-from_filter _ p (YieldsList-at c.filter.ensures.source (YieldsList-from_slice l cc)) c.filter.ensures.closure (λ x b q k. search (rules, tests)))) c.map.ensures.closure (λ x r q k. search rules)))

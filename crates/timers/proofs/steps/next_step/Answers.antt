@@ -1,21 +1,15 @@
-use Rattle.std.specs.Prelude.{refl}
-use Rattle.std.proofs.Common.{ap, ◌∙◌, arith, take_all}
-use Rattle.std.proofs.lemmas.List.{length-map}
-use Rattle.timers.proofs.Laws.{nine, next_more}
-use Rattle.timers.specs.Timers.{Timers, view, next_timeout}
-use Rattle.values.specs.Time.{deadline_of, deadline_view}
+-- The chain gives the moments that are set, and picks the first least of them.
+use Rattle.std.proofs.Common.{◌∙◌, rules, tests}
+use Rattle.std.proofs.lemmas.Iterator.{YieldsList-from_slice}
+use Rattle.std.proofs.lemmas.Iterator.Consumers.{reduce_from_yields_List, YieldsList-from_filter_map}
+use Rattle.timers.proofs.Laws.{next_of}
+use Rattle.values.specs.Time.{deadline_view, moved_of}
+use Rattle.values.specs.declared.time.Deadline.{Deadline}
 use Rattle.timers.proofs.steps.next_step.Goals as goal
-
-pub loop-i-init : goal.loop-i-init
-loop-i-init c = (omega arith, refl)
-
-pub loop-i-preserved : goal.loop-i-preserved
-loop-i-preserved c =
-    let o = c.loop-i in
-    (omega arith, next_more c.args.t c.requires o.i (omega arith) _ o.best o.invariant.1 c.sooner-best.result c.sooner-best.ensures)
 
 pub returns : goal.returns
 returns c =
-    let o = c.loop-i in
-    let t = c.args.t in
-    o.invariant.1 ∙ ap (λ (v : Timers). deadline_of (next_timeout v)) (take_all o.i (view t) (omega (arith, nine t c.requires, length-map t.expires deadline_view)))
+    let l = c.args.t.table.now.expires in
+    reduce_from_yields_List _ c.filter_map.result c.min.result c.min.ensures.ran
+    (YieldsList-from_filter_map _ (λ (d : Deadline). moved_of (deadline_view d)) (YieldsList-from_slice l cc) c.filter_map.ensures.closure (λ x r q k. search (rules, tests)))
+    ∙ next_of l

@@ -1,6 +1,0 @@
--- Both lists are empty.
-use Rattle.path.specs.FieldLaws.{first_is}
-use Rattle.path.proofs.starts.first_path.Goals as goal
-
-pub returns : goal.returns
-returns c = first_is c.args.pair c.args.mds _ _ c.no_received-received.ensures c.no_sent-sent.ensures

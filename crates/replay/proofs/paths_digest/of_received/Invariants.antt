@@ -1,9 +1,0 @@
--- The loop only counts up to its end.
-use Rattle.std.proofs.Common.{◌-◌, ◌≤◌}
-use Rattle.replay.proofs.paths_digest.of_received.Given as goal
-
-abbrev pub invariant-loop-i : goal.invariant-loop-i
-invariant-loop-i l = l.i ≤ 8
-
-abbrev pub decreases-loop-i : goal.decreases-loop-i
-decreases-loop-i l = 8 - l.i
