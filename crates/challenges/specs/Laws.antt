@@ -1,11 +1,11 @@
 -- Laws of the challenge lists, as the loops over them and the calls above cite them.
-use Rattle.std.specs.Prelude.{ℕ, zero, suc, ◌+◌, ◌≤◌, ◌<◌, ◌≡◌, refl, List, [], ◌∷◌, ◌++◌, map, Bool, true, false, ◌&&◌, cond, length, take, set, get_or}
-use Rattle.std.proofs.Common.{sym, ap, ap₂, ◌∙◌, arith, not-suc-le-zero, length-append}
+use Rattle.std.specs.Prelude.{ℕ, zero, suc, ◌+◌, ◌-◌, ◌≤◌, ◌<◌, ◌≡◌, refl, List, [], ◌∷◌, ◌++◌, map, Bool, true, false, ◌&&◌, cond, length, take, drop, set, get_or}
+use Rattle.std.proofs.Common.{sym, ap, ap₂, ◌∙◌, arith, not-suc-le-zero, length-append, length-drop}
 use Rattle.std.proofs.Math.Option.{none, some}
 use Rattle.std.proofs.lemmas.List.{length-map}
 use Rattle.std.proofs.Math.Bool.{and_assoc, and_comm}
 use Rattle.lists.specs.Defs.{front, keep, nought, padded, picked}
-use Rattle.lists.specs.Held.{held_count, held_push, held_more, held_of, padded_push}
+use Rattle.lists.specs.Held.{Held, held_count, held_push, held_more, held_of, take_padded, padded_push}
 use Rattle.values.specs.Limits.{max_path_chals_recv, max_path_chals_sent}
 use Rattle.values.specs.declared.time.Span.{Span}
 use Rattle.challenges.specs.declared.received.Received.{Received}
@@ -14,7 +14,7 @@ use Rattle.challenges.specs.declared.sent.Sent.{Sent}
 use Rattle.challenges.specs.declared.matches.Spans.{Spans}
 use Rattle.challenges.specs.Challenges.{ReceivedWell, SentWell, is_zero, last_size, received_of, sent_of, span_of, spans_of, standing, waiting, zero_challenge}
 
--- ---- any array with a count: its first element
+-- ---- any array with a count: its first element, and the array without it where there is none
 
 pub front_none : {A : Type 0} (l : List A) (n : ℕ) → n ≡ 0 → front (take n l) ≡ none
 front_none l n e = ap (λ (k : ℕ). front (take k l)) e
@@ -23,6 +23,14 @@ pub front_some : {A : Type 0} (d : A) (l : List A) (n : ℕ) → 0 < n → n ≤
 front_some d l zero h k = absurd (not-suc-le-zero h)
 front_some d [] (suc n) h k = absurd (not-suc-le-zero k)
 front_some d (x ∷ xs) (suc n) h k = refl
+
+module _ {A : Type 0} {n : ℕ} {z : A} {items : List A} {count : ℕ} (h : Held n z items count) where
+  -- nothing is there to be taken out
+  pub held_empty : count ≡ 0 → items ≡ padded n z (drop 1 (take count items))
+  held_empty e = h.is ∙ ap (λ (k : ℕ). padded n z (take k items)) e ∙ ap (λ (k : ℕ). padded n z (drop 1 (take k items))) (sym e)
+
+  pub held_less : count - 1 ≡ length (drop 1 (take count items))
+  held_less = omega (arith, held_count h, length-drop 1 (take count items))
 
 -- ---- the challenges received
 
@@ -36,6 +44,16 @@ module _ (q : Received) (w : ReceivedWell q) where
   pub received_push_is : (d : ℕ) → q.count < max_path_chals_recv → ◌≡◌ {A = Received} (record { items = set q.items q.count d; count = q.count + 1 }) (received_of (waiting q ++ (d ∷ [])))
   received_push_is d h = λ i. record { items = held_push w d h i; count = held_more w d i }
 
+  pub received_none : q.count ≡ 0 → q ≡ received_of (drop 1 (waiting q))
+  received_none e = λ i. record { items = held_empty w e i; count = count i }
+    where
+      count : q.count ≡ length (drop 1 (waiting q))
+      count = omega (arith, held_less w)
+
+module _ (l : List ℕ) (q : Received) (e : q ≡ received_of l) where
+  pub waiting_of_lem : waiting q ≡ l
+  waiting_of_lem = ap waiting e ∙ take_padded max_path_chals_recv 0 l
+
 -- ---- the challenges sent
 
 module _ (s : Sent) (w : SentWell s) where
@@ -47,6 +65,12 @@ module _ (s : Sent) (w : SentWell s) where
 
   pub sent_push_is : (x : Challenge) → s.count < max_path_chals_sent → ◌≡◌ {A = Sent} (record { items = set s.items s.count x; count = s.count + 1 }) (sent_of (standing s ++ (x ∷ [])))
   sent_push_is x h = λ i. record { items = held_push w x h i; count = held_more w x i }
+
+  pub sent_none : s.count ≡ 0 → s ≡ sent_of (drop 1 (standing s))
+  sent_none e = λ i. record { items = held_empty w e i; count = count i }
+    where
+      count : s.count ≡ length (drop 1 (standing s))
+      count = omega (arith, held_less w)
 
 -- a list of challenges sent that is known by its list k
 module _ (k : List Challenge) (out : Sent) (e : out ≡ sent_of k) where

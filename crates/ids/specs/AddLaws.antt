@@ -6,7 +6,7 @@ use Rattle.std.proofs.Math.Option.{some}
 use Rattle.std.proofs.lemmas.List.{length-map}
 use Rattle.lists.specs.Defs.{maybe, given, same, first, keep, picked}
 use Rattle.values.specs.Limits.{queue_slots, retire_factor, capacity_of}
-use Rattle.values.specs.Cid.{same_id}
+use Rattle.values.specs.Cid.{id_formed, same_id}
 use Rattle.values.specs.Token.{token_view}
 use Rattle.values.specs.declared.token.Token.{Token}
 use Rattle.values.specs.declared.cid.ConnectionId.{ConnectionId}
@@ -196,6 +196,9 @@ module _ {A : Type 0} (x : I.Item) (n a c : A) where
 module _ (s : Ids) (w : well_formed s ≡ true) (cid : ConnectionId) (seq : ℕ) (token : List ℕ) (b : ℕ) where
   abbrev pub item : I.Item
   item = record { seq = seq; path = 0; cid = cid; token = record { bytes = token; present = true }; has_path = false }
+
+  pub item_formed_lem : id_formed cid ≡ true → F.item_formed_of item ≡ true
+  item_formed_lem e = ap (λ (t : Bool). t && true && true && true) e
 
   abbrev past : Out
   past = clash_at item (add_new (item_view item) b (view s)) (accepted (Retired []) (view s)) (refused 4 (view s)) (view s).dcids

@@ -85,6 +85,14 @@ module _ {A B : Type 0} (f : A → B) where
   at_past zero (x ∷ l) h = absurd (not-suc-le-zero h)
   at_past (suc i) (x ∷ l) h = at_past i l (le_of_suc-le-suc h)
 
+pub front_some : (l : List ℕ) → 0 < length l → front l ≡ some (get_or l 0 0)
+front_some [] h = absurd (not-suc-le-zero h)
+front_some (x ∷ l) h = refl
+
+pub front_none : (l : List ℕ) → length l ≤ 0 → front l ≡ none
+front_none [] h = refl
+front_none (x ∷ l) h = absurd (not-suc-le-zero h)
+
 pub empty_is : (l : List ℕ) → empty l ≡ eqb (length l) 0
 empty_is [] = refl
 empty_is (x ∷ l) = sym (ne_eqb (suc (length l)) 0 (λ q. omega (arith, q)))

@@ -8,7 +8,8 @@ use Rattle.std.proofs.lemmas.Bool.{lt-leb}
 use Rattle.lists.specs.Defs.{maybe, given, any, first, first_with, keep, picked, less, least}
 use Rattle.lists.specs.Bools.{and_both}
 use Rattle.lists.specs.Search.{first_below}
-use Rattle.values.specs.Limits.{queue_slots, max_sequence}
+use Rattle.lists.specs.Held.{length_without}
+use Rattle.values.specs.Limits.{table_slots, queue_slots, max_sequence}
 use Rattle.values.specs.Cid.{same_id}
 use Rattle.values.specs.Token.{token_formed_of, token_view}
 use Rattle.values.specs.declared.answers.Numbered.{Numbered}
@@ -18,7 +19,7 @@ use Rattle.ids_rules.specs.View.{View, Out, refused, accepted, Issued, Freed}
 use Rattle.ids_rules.specs.With.{with_scids, with_retire_prior_to}
 use Rattle.ids_rules.specs.Steps.{lowest_from, marked, issued, issue, add_scid, sole, taken, without, retire_scid}
 use Rattle.tables.specs.Table.{zero_item, live, entries, table_of, queue_of}
-use Rattle.tables.specs.Laws.{live_of}
+use Rattle.tables.specs.Laws.{live_long, live_of}
 use Rattle.tables.specs.declared.sequences.Queue.{Queue}
 use Rattle.tables.specs.declared.items.Table.{Table}
 use Rattle.ids_state.specs.Formed.{well_formed}
@@ -168,6 +169,9 @@ module _ (s : Ids) (w : well_formed s ≡ true) (seq i : ℕ) (place : first_wit
 
   pub place_below : i < s.scids.count
   place_below = place_in s.scids (source_well s w) (T.has_seq seq) i place
+
+  pub rest_few : length (D.without i (live s.scids)) < table_slots
+  rest_few = omega (arith, length_without i (live s.scids) (first_below (T.has_seq seq) (live s.scids) i place), live_long s.scids (source_well s w), (source_well s w).few)
 
   abbrev taken_at : Bool → Option ℕ → Out
   taken_at b o = cond b (refused 4 out) (maybe o (refused 2 out) (λ m. accepted (Freed (item_view y).path) (with_retire_prior_to m out)))

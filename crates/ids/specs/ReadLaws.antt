@@ -1,25 +1,27 @@
 -- The calls that read: each way through the definition, as the code answers it.
 use Rattle.std.specs.Option.{ok_or, option_copied}
 use Rattle.std.specs.Result.{IsErrAnd}
-use Rattle.std.specs.Prelude.{Option as Optional, Some, None, Result, Ok, Err, ℕ, ◌<◌, ◌≡◌, refl, List, [], ◌∷◌, map, Bool, true, false, cond, ◌&&◌, length, get_or, is_some, IfSome, nat_lt}
-use Rattle.std.proofs.Common.{sym, ap, ap₂, ◌∙◌, subst, arith, ltb-true, ltb-false, Bor}
+use Rattle.std.specs.Prelude.{Option as Optional, Some, None, Result, Ok, Err, ℕ, ◌≤◌, ◌<◌, ◌≡◌, refl, List, [], ◌∷◌, map, Bool, true, false, cond, ◌&&◌, length, get_or, is_some, IfSome, nat_lt}
+use Rattle.std.proofs.Common.{sym, ap, ap₂, ◌∙◌, subst, arith, get_or-take, ltb-true, ltb-false, Bor}
 use Rattle.std.proofs.Math.Option.{Option, none, some}
-use Rattle.lists.specs.Defs.{maybe, given, optional, all, first, first_with, at}
+use Rattle.lists.specs.Defs.{maybe, given, optional, all, first, first_with, front, at}
 use Rattle.lists.specs.Bools.{and_both}
 use Rattle.lists.specs.Held.{get_or_in}
 use Rattle.lists.specs.Search.{first_below, optional_some, optional_none}
 use Rattle.values.specs.declared.cid.ConnectionId.{ConnectionId}
 use Rattle.values.specs.Answers.{numbered_at}
+use Rattle.values.specs.declared.answers.Numbered.{Numbered}
 use Rattle.ids_rules.specs.Values.{Item, has_seq, has_cid}
 use Rattle.ids_rules.specs.View.{Nothing, Whole, Maybe, Found, Frame}
 use Rattle.ids_rules.specs.Calls.{says, says2}
 use Rattle.tables.specs.Table.{zero_item, live, entries, TableWell, QueueWell}
-use Rattle.tables.specs.Laws.{live_long}
+use Rattle.tables.specs.Laws.{entries_long, live_long}
 use Rattle.tables.specs.declared.items.Table.{Table}
+use Rattle.tables.specs.declared.sequences.Queue.{Queue}
 use Rattle.ids.specs.Reading.{item_view, item_at_of, found_at, frame_at, item_answer_of, found_answer_of, frame_of}
 use Rattle.ids.specs.ReadingLaws.{path_back, present_given, item_parts, item_back}
 use Rattle.ids.specs.Results.{item_answer}
-use Rattle.ids.specs.Carry.{place_holds, nowhere_holds, at_in, at_past, all_at}
+use Rattle.ids.specs.Carry.{place_holds, nowhere_holds, at_in, at_past, front_some, front_none, all_at}
 use Rattle.ids.specs.declared.answers.ItemAnswer.{ItemAnswer}
 use Rattle.ids.specs.declared.answers.FoundAnswer.{FoundAnswer}
 use Rattle.ids.specs.declared.answers.FrameAnswer.{FrameAnswer}
@@ -142,6 +144,15 @@ module _ (l : List I.Item) (cid : ConnectionId) where
 -- of a call with nothing else to test
 pub passes : {b : Bool} → b ≡ true → (b && true) ≡ true
 passes {b} e = ap (λ (t : Bool). t && true) e
+
+module _ (q : Queue) (w : QueueWell q) where
+  pub next_some : 0 < q.count → ◌≡◌ {A = Numbered} (record { refusal = 0; present = true; number = get_or q.items 0 0 }) (numbered_at 0 (front (entries q)))
+  next_some h =
+      ap {B = Numbered} (λ (n : ℕ). record { refusal = 0; present = true; number = n }) (sym (get_or-take q.count q.items 0 0 h))
+      ∙ sym (ap (numbered_at 0) (front_some (entries q) (omega (arith, entries_long q w))))
+
+  pub next_none : q.count ≤ 0 → numbered_at 0 none ≡ numbered_at 0 (front (entries q))
+  next_none h = sym (ap (numbered_at 0) (front_none (entries q) (omega (arith, entries_long q w))))
 
 -- an option of the code as the answer of a call
 pub numbered_is : (r : Optional ℕ) (o : Option ℕ) → r ≡ optional o → R.numbered_of (Ok r) ≡ numbered_at 0 o

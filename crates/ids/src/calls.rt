@@ -25,15 +25,17 @@ pub fn fresh(dcid_limit: u64, cid: ConnectionId, path: u64, token: Token) -> Don
     ensures { result ≡ fresh_ids dcid_limit cid path token }
 {
     let limit = (1 <= dcid_limit) & (dcid_limit <= MAX_DCID_LIMIT);
-    match values::form(values::token_formed(token) & limit & values::cid_formed(cid)) {
-        Ok(()) => DoneOut {
-            ids: starts::first_state(dcid_limit, cid, path, token),
-            answer: Done::from(Ok(())),
-        },
-        Err(refusal) => DoneOut {
+    if let Err(refusal) = values::form(
+        values::token_formed(token) & limit & values::cid_formed(cid),
+    ) {
+        return DoneOut {
             ids: starts::zero_state(),
             answer: Done::from(Err(refusal)),
-        },
+        };
+    }
+    DoneOut {
+        ids: starts::first_state(dcid_limit, cid, path, token),
+        answer: Done::from(Ok(())),
     }
 }
 

@@ -54,8 +54,10 @@ pub fn first_state(dcid_limit: u64, cid: ConnectionId, path: u64, token: Token) 
     requires { token_formed_of token ≡ true }
     ensures { result ≡ ids_of (S.fresh dcid_limit cid path (token_view token)) }
 {
+    let scids = only(cid, token, Some(path));
+    let empty = tables::no_entries();
     Ids {
-        scids: only(cid, token, Some(path)),
+        scids,
         dcids: tables::no_items(),
         scid_capacity: capacity_for(MIN_SCID_LIMIT) as usize,
         dcid_limit,
@@ -65,8 +67,8 @@ pub fn first_state(dcid_limit: u64, cid: ConnectionId, path: u64, token: Token) 
         next_scid_seq: 1,
         retire_prior_to: 0,
         largest_peer_retire_prior_to: 0,
-        scids_to_advertise: tables::no_entries(),
-        dcids_to_retire: tables::no_entries(),
+        scids_to_advertise: empty,
+        dcids_to_retire: empty,
     }
 }
 

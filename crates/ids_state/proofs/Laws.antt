@@ -1,17 +1,40 @@
--- Laws of the test: what the loop over the sources cites, and the facts that a well-formed state has.
-use Rattle.std.specs.Prelude.{ℕ, zero, suc, ◌-◌, ◌*◌, ◌%◌, ◌≤◌, ◌<◌, ◌≡◌, List, [], ◌∷◌, true, not, ◌&&◌, eqb, leb, ltb, length, take, drop, get_or, replicate}
-use Rattle.std.proofs.Common.{ap, ◌∙◌, arith, eqb-true, leb-true, ltb-true}
+-- Laws of the test: what loops over the tables cite, and the facts that a well-formed state has.
+use Rattle.std.specs.Prelude.{ℕ, zero, suc, ◌+◌, ◌-◌, ◌*◌, ◌%◌, ◌≤◌, ◌<◌, ◌≡◌, List, [], ◌∷◌, map, Bool, true, false, not, ◌&&◌, ◌||◌, eqb, leb, ltb, length, take, drop, get_or, replicate}
+use Rattle.std.proofs.Common.{sym, ap, ◌∙◌, arith, length-append, drop-cons, get_or-take, length-take-le, drop_at, eqb-true, leb-true, ltb-true}
+use Rattle.std.proofs.Math.Bool.{and-true}
+use Rattle.std.specs.Int.Bits.{bit_or}
+use Rattle.std.proofs.lemmas.List.{length-map}
+use Rattle.std.proofs.Math.ListN.{get_or-map, get_or-append}
 use Rattle.std.proofs.lemmas.Bool.{not-true}
-use Rattle.lists.specs.Defs.{nought, all, past, pairwise, padded}
+use Rattle.lists.specs.Defs.{nought, all, past, pairwise, after, rising, padded}
 use Rattle.lists.specs.Bools.{and_both, conj_each}
-use Rattle.lists.specs.Tests.{past_is, nought_is}
+use Rattle.lists.specs.Tests.{zero_or, all_more, all_done, past_all, past_is, nought_is, pair_start, pair_more, pair_done, pair_end, after_more}
+use Rattle.lists.specs.Held.{get_or_in}
 use Rattle.values.specs.Limits.{max_cid_len, token_len, max_dcid_limit, max_cids_count, min_scid_limit, table_slots, queue_slots, max_sequence, capacity_of}
-use Rattle.tables.specs.Table.{is_zero, zero_item, live}
+use Rattle.tables.specs.Table.{is_zero, zero_item, live, seq_of}
+use Rattle.tables.specs.Laws.{seven}
 use Rattle.tables.specs.declared.items.Item.{Item}
-use Rattle.ids_state.specs.Formed.{item_formed_of, apart, tail_zero, rising_below, sources_formed, destinations_formed, queue_formed_of, bounded, well_formed}
+use Rattle.tables.specs.declared.items.Table.{Table}
+use Rattle.ids_state.specs.Formed.{item_formed_of, apart, tail_zero, seqs_of, rising_below, sources_formed, destinations_formed, queue_formed_of, bounded, well_formed}
 use Rattle.ids_state.specs.declared.state.Ids.{Ids}
 
 -- ---- what is zero
+
+or : (x y : ℕ) {z : ℕ} → z ≡ bit_or x y → nought z ≡ (nought x && nought y)
+or x y e = ap nought e ∙ zero_or x y
+
+pub merged : (a b r : Item)
+    → r.seq ≡ bit_or a.seq b.seq → r.path ≡ bit_or a.path b.path → r.cid.len ≡ bit_or a.cid.len b.cid.len
+    → past nought max_cid_len 0 r.cid.bytes ≡ (past nought max_cid_len 0 a.cid.bytes && past nought max_cid_len 0 b.cid.bytes)
+    → past nought token_len 0 r.token.bytes ≡ (past nought token_len 0 a.token.bytes && past nought token_len 0 b.token.bytes)
+    → r.token.present ≡ false → r.has_path ≡ (a.has_path || a.token.present || b.has_path || b.token.present)
+    → is_zero r ≡ (is_zero a && is_zero b)
+merged a b r es ep el ei ek et eh =
+    seven
+    (nought a.seq) (nought a.path) (nought a.cid.len) (past nought max_cid_len 0 a.cid.bytes) (past nought token_len 0 a.token.bytes)
+    (nought b.seq) (nought b.path) (nought b.cid.len) (past nought max_cid_len 0 b.cid.bytes) (past nought token_len 0 b.token.bytes)
+    a.token.present a.has_path b.token.present b.has_path
+    (or a.seq b.seq es) (or a.path b.path ep) (or a.cid.len b.cid.len el) ei ek et eh
 
 -- a list of n zeros
 pub zeros_is : (n : ℕ) (l : List ℕ) → past nought n 0 l ≡ true → l ≡ replicate n 0
@@ -36,6 +59,84 @@ zero_is x e =
       token = record { bytes = key i; present = present i };
       has_path = has i;
     }
+
+-- ---- a table, as the loops walk it
+
+module _ (t : Table) (long : length t.items ≡ table_slots) (few : t.count ≤ table_slots) where
+  walk_long : length (live t) ≡ t.count
+  walk_long = length-take-le t.count t.items (omega arith)
+
+  walk_at : (d : Item) (i : ℕ) → i < t.count → get_or (live t) i d ≡ get_or t.items i d
+  walk_at d i h = get_or-take t.count t.items i d h
+
+  pub formed_more : (d : Item) (i : ℕ) (ok z : Bool) → i < t.count → z ≡ item_formed_of (get_or t.items i d)
+      → all item_formed_of (live t) ≡ (ok && all item_formed_of (drop i (live t))) → all item_formed_of (live t) ≡ ((ok && z) && all item_formed_of (drop (i + 1) (live t)))
+  formed_more d i ok z h q e =
+      e ∙ all_more item_formed_of d (live t) i ok (omega (arith, walk_long))
+      ∙ ap (λ (b : Bool). (ok && b) && all item_formed_of (drop (i + 1) (live t))) (ap item_formed_of (walk_at d i h) ∙ sym q)
+
+  -- the tail
+  pub tail_more : (d : Item) (j : ℕ) (acc r : Item) → j < table_slots → is_zero r ≡ (is_zero acc && is_zero (get_or t.items j d))
+      → all is_zero (drop t.count t.items) ≡ (is_zero acc && all is_zero (drop j t.items))
+      → all is_zero (drop t.count t.items) ≡ (is_zero r && all is_zero (drop (j + 1) t.items))
+  tail_more d j acc r h q e =
+      e ∙ all_more is_zero d t.items j (is_zero acc) (omega arith) ∙ ap (λ (b : Bool). b && all is_zero (drop (j + 1) t.items)) (sym q)
+
+  pub tail_done : (j : ℕ) (acc : Item) (z : Bool) → table_slots ≤ j → z ≡ is_zero acc
+      → all is_zero (drop t.count t.items) ≡ (is_zero acc && all is_zero (drop j t.items)) → z ≡ tail_zero t
+  tail_done j acc z h q e = q ∙ sym (past_all is_zero table_slots t.count t.items long ∙ e ∙ all_done is_zero t.items j (is_zero acc) (omega arith))
+
+  -- the sequences rise
+  module _ (next : ℕ) where
+    map_long : length (map seq_of (live t)) ≡ t.count
+    map_long = length-map (live t) seq_of ∙ walk_long
+
+    seqs_long : length (seqs_of t next) ≡ t.count + 1
+    seqs_long = length-append (map seq_of (live t)) (next ∷ []) ∙ ap (λ (n : ℕ). n + 1) map_long
+
+    seqs_at : (d : Item) (i : ℕ) → i < t.count → get_or (seqs_of t next) i 0 ≡ (get_or t.items i d).seq
+    seqs_at d i h =
+        get_or-append (map seq_of (live t)) (next ∷ []) 0 i (omega (arith, map_long))
+        ∙ get_or_in (map seq_of (live t)) i 0 d.seq (omega (arith, map_long))
+        ∙ get_or-map seq_of (live t) i d
+        ∙ ap seq_of (walk_at d i h)
+
+    pub rise_start : (d : Item) → 1 ≤ t.count → rising_below t next ≡ (true && after (get_or t.items 0 d).seq (drop 1 (seqs_of t next)))
+    rise_start d h = ap rising (drop-cons (seqs_of t next) 0 0 (omega (arith, seqs_long))) ∙ ap (λ (x : ℕ). after x (drop 1 (seqs_of t next))) (seqs_at d 0 h)
+
+    pub rise_more : (d : Item) (i last : ℕ) (up : Bool) → i < t.count
+        → rising_below t next ≡ (up && after last (drop i (seqs_of t next)))
+        → rising_below t next ≡ ((up && ltb last (get_or t.items i d).seq) && after (get_or t.items i d).seq (drop (i + 1) (seqs_of t next)))
+    rise_more d i last up h e =
+        e ∙ after_more (seqs_of t next) i last up (omega (arith, seqs_long))
+        ∙ ap (λ (x : ℕ). (up && ltb last x) && after x (drop (i + 1) (seqs_of t next))) (seqs_at d i h)
+
+    pub rise_done : (i last : ℕ) (up : Bool) → i ≡ t.count → rising_below t next ≡ (up && after last (drop i (seqs_of t next))) → rising_below t next ≡ (up && ltb last next)
+    rise_done i last up q e =
+        e ∙ ap (λ (r : List ℕ). up && after last r) (drop_at (map seq_of (live t)) (next ∷ []) i (map_long ∙ sym q)) ∙ ap (λ (b : Bool). up && b) (and-true _)
+
+  -- no two are alike
+  pub apart_start : (d : Item) (i : ℕ) (far : Bool) → i < t.count → pairwise apart (live t) ≡ (far && pairwise apart (drop i (live t)))
+      → pairwise apart (live t) ≡ (far && (all (apart (get_or t.items i d)) (drop (i + 1) (live t)) && pairwise apart (drop (i + 1) (live t))))
+  apart_start d i far h e =
+      e ∙ pair_start apart d (live t) i far (omega (arith, walk_long))
+      ∙ ap (λ (x : Item). far && (all (apart x) (drop (i + 1) (live t)) && pairwise apart (drop (i + 1) (live t)))) (walk_at d i h)
+
+  pub apart_more : (d x : Item) (k : ℕ) (far w rest : Bool) → k < t.count → w ≡ apart x (get_or t.items k d)
+      → pairwise apart (live t) ≡ (far && (all (apart x) (drop k (live t)) && rest))
+      → pairwise apart (live t) ≡ ((far && w) && (all (apart x) (drop (k + 1) (live t)) && rest))
+  apart_more d x k far w rest h q e =
+      e ∙ pair_more apart d x (live t) k far rest (omega (arith, walk_long))
+      ∙ ap (λ (b : Bool). (far && b) && (all (apart x) (drop (k + 1) (live t)) && rest)) (ap (apart x) (walk_at d k h) ∙ sym q)
+
+  pub apart_done : (x : Item) (k : ℕ) (far rest : Bool) → t.count ≤ k → pairwise apart (live t) ≡ (far && (all (apart x) (drop k (live t)) && rest)) → pairwise apart (live t) ≡ (far && rest)
+  apart_done x k far rest h e = e ∙ pair_done apart x (live t) k far rest (omega (arith, walk_long))
+
+  pub apart_end : (i : ℕ) (far : Bool) → t.count ≤ i → pairwise apart (live t) ≡ (far && pairwise apart (drop i (live t))) → pairwise apart (live t) ≡ far
+  apart_end i far h e = e ∙ pair_end apart (live t) i far (omega (arith, walk_long))
+
+  pub formed_done : (i : ℕ) (ok : Bool) → t.count ≤ i → all item_formed_of (live t) ≡ (ok && all item_formed_of (drop i (live t))) → all item_formed_of (live t) ≡ ok
+  formed_done i ok h e = e ∙ all_done item_formed_of (live t) i ok (omega (arith, walk_long))
 
 -- ---- the first item, and those after it
 

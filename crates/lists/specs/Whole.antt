@@ -6,7 +6,20 @@ use Rattle.std.proofs.Math.Bool.{and_assoc}
 use Rattle.std.proofs.lemmas.List.{length-replicate}
 use Rattle.std.specs.Int.Bits.{bit_or, bit_xor}
 use Rattle.lists.specs.Defs.{all, past, nought, same}
-use Rattle.lists.specs.Tests.{zero_or, zero_xor, all_more, all_done, past_all, swap, same_more, same_done}
+use Rattle.lists.specs.Tests.{zero_or, zero_xor, all_more, all_done, past_all, swap, zeros_more, merge_more, same_more, same_done}
+
+-- ---- the numbers from place k on are gathered by or: acc has those before i
+
+module _ (k : ℕ) (l : List ℕ) where
+  abbrev pub Gathered : (acc i : ℕ) → Type 0
+  Gathered acc i = all nought (drop k l) ≡ (nought acc && all nought (drop i l))
+
+  module _ (n : ℕ) (long : length l ≡ n) (acc i : ℕ) (h : Gathered acc i) where
+    pub gathered_more : i < n → Gathered (bit_or acc (get_or l i 0)) (i + 1)
+    gathered_more t = h ∙ zeros_more l i acc (omega arith)
+
+    pub gathered_done : n ≤ i → nought acc ≡ past nought n k l
+    gathered_done t = sym (past_all nought n k l long ∙ h ∙ all_done nought l i (nought acc) (omega arith))
 
 -- ---- two arrays are compared: ok says whether they are the same before i
 
@@ -26,6 +39,21 @@ module _ (a b : List ℕ) where
   collected_more n la lb d i h t =
       let one = zero_or d _ ∙ ap (λ (z : Bool). nought d && z) (zero_xor (get_or a i 0) (get_or b i 0)) in
       compared_more n la lb (nought d) i h t ∙ ap (λ (ok : Bool). ok && same (drop (i + 1) a) (drop (i + 1) b)) (sym one)
+
+-- ---- b is merged into a by or: r has both before i
+
+module _ (a b : List ℕ) (n : ℕ) where
+  abbrev pub Merged : (r : List ℕ) (i : ℕ) → Type 0
+  Merged r i = (length r ≡ n) × ((all nought a && all nought b) ≡ (all nought r && all nought (drop i b)))
+
+  module _ (la : length a ≡ n) (lb : length b ≡ n) (r : List ℕ) (i : ℕ) (h : Merged r i) where
+    pub merged_more : i < n → Merged (set r i (bit_or (get_or r i 0) (get_or b i 0))) (i + 1)
+    merged_more t = (simp length-set h.0, h.1 ∙ merge_more r b i (omega (arith, h.0)) (omega arith))
+
+    pub merged_done : n ≤ i → past nought n 0 r ≡ (past nought n 0 a && past nought n 0 b)
+    merged_done t =
+        past_all nought n 0 r h.0
+        ∙ sym (ap₂ ◌&&◌ (past_all nought n 0 a la) (past_all nought n 0 b lb) ∙ h.1 ∙ all_done nought b i (all nought r) (omega arith))
 
 -- ---- what passes a test exactly where two do is gathered of both, place by place: r has both before i
 

@@ -1,7 +1,8 @@
 -- A challenge is sent: when it is refused, and what it makes of the state.
 use Rattle.std.specs.Prelude.{ℕ, ◌≤◌, ◌<◌, max, ◌≡◌, refl, List, [], ◌∷◌, ◌++◌, map, Bool, true, false, cond, ◌||◌, leb, ltb, length}
-use Rattle.std.proofs.Common.{sym, ap, ap₂, ◌∙◌, arith, le-ltb, le-leb, leb-false}
+use Rattle.std.proofs.Common.{sym, ap, ap₂, ◌∙◌, arith, lt-ltb, le-ltb, le-leb, ltb-false, leb-false}
 use Rattle.std.proofs.lemmas.List.{length-map}
+use Rattle.std.proofs.lemmas.Bool.{lt-leb}
 use Rattle.values.specs.Limits.{max_shift, max_moment, max_path_chals_sent}
 use Rattle.values.specs.declared.time.Moment.{Moment}
 use Rattle.challenges.specs.Challenges.{standing, sent_of}
@@ -42,8 +43,28 @@ module _ (x : S.Path) (w : path_formed_of x ≡ true) where
   sent_count = length-map (standing x.sent_chals) chal_view ∙ standing_long x.sent_chals (path_facts x w).sent
 
   module _ (now : ℕ) where
+    abbrev lost_test : Bool
+    lost_test = ltb max_shift x.lost_chal
+
+    abbrev time_test : Bool
+    time_test = ltb max_moment (loss_time now x.lost_chal)
+
     abbrev full_test : Bool
     full_test = leb max_path_chals_sent (length (path_view x).sent)
+
+    pub refuse_lost : max_shift < x.lost_chal → 8 ≡ refusal now (path_view x)
+    refuse_lost h = sym (ap (λ (a : Bool). refusal_at a time_test full_test) (lt-ltb max_shift x.lost_chal h))
+
+    module _ (h : x.lost_chal ≤ max_shift) where
+      pub refuse_time : max_moment < loss_time now x.lost_chal → 8 ≡ refusal now (path_view x)
+      refuse_time k = sym (ap₂ (λ (a b : Bool). refusal_at a b full_test) (le-ltb max_shift x.lost_chal h) (lt-ltb max_moment (loss_time now x.lost_chal) k))
+
+      module _ (k : loss_time now x.lost_chal ≤ max_moment) where
+        in_time_lem : refusal now (path_view x) ≡ refusal_at false false full_test
+        in_time_lem = ap₂ (λ (a b : Bool). refusal_at a b full_test) (le-ltb max_shift x.lost_chal h) (le-ltb max_moment (loss_time now x.lost_chal) k)
+
+        pub refuse_none : x.sent_chals.count < max_path_chals_sent → 0 ≡ refusal now (path_view x)
+        refuse_none f = sym (in_time_lem ∙ ap (refusal_at false false) (lt-leb max_path_chals_sent (length (path_view x).sent) (omega (arith, sent_count))))
 
     -- there is a deadline, and no place
     pub refuse_full : x.lost_chal ≤ max_shift → loss_time now x.lost_chal ≤ max_moment → max_path_chals_sent ≤ x.sent_chals.count → refusal now (path_view x) ≡ 6
@@ -51,11 +72,16 @@ module _ (x : S.Path) (w : path_formed_of x ≡ true) where
         ap₂ (λ (a b : Bool). refusal_at a b full_test) (le-ltb max_shift x.lost_chal h) (le-ltb max_moment (loss_time now x.lost_chal) k)
         ∙ ap (refusal_at false false) (le-leb max_path_chals_sent (length (path_view x).sent) (omega (arith, sent_count)))
 
-    -- a challenge that is not refused has a place
-    pub send_room : refusal now (path_view x) ≡ 0 → x.sent_chals.count < max_path_chals_sent
-    send_room e =
-        let room = (none_at (ltb max_shift x.lost_chal) (ltb max_moment (loss_time now x.lost_chal)) full_test e).2 in
-        omega (arith, sent_count, leb-false max_path_chals_sent (length (path_view x).sent) room)
+    -- what a challenge that is not refused has: a deadline, and a place
+    module _ (e : refusal now (path_view x) ≡ 0) where
+      pub send_lost : x.lost_chal ≤ max_shift
+      send_lost = ltb-false max_shift x.lost_chal (none_at lost_test time_test full_test e).0
+
+      pub send_time : loss_time now x.lost_chal ≤ max_moment
+      send_time = ltb-false max_moment (loss_time now x.lost_chal) (none_at lost_test time_test full_test e).1
+
+      pub send_room : x.sent_chals.count < max_path_chals_sent
+      send_room = omega (arith, sent_count, leb-false max_path_chals_sent (length (path_view x).sent) (none_at lost_test time_test full_test e).2)
 
     -- it goes to the end; `due` is its deadline
     pub send_is : (d size r : ℕ) (due : Moment) (s : Sent) → due ≡ record { us = loss_time now x.lost_chal } → s ≡ sent_of (standing x.sent_chals ++ (stamped d size now due ∷ [])) → r ≡ max x.state rank_validating

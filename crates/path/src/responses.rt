@@ -1,5 +1,5 @@
 // A response to a challenge that was sent. Where nobody asked it says nothing, and the path stays as it is [2].
-ghost use Rattle.std.specs.Prelude.{◌≡◌};
+ghost use Rattle.std.specs.Prelude.{◌≡◌, [], false, MatchResult};
 ghost use Rattle.challenges.specs.Challenges.{spans_of};
 ghost use Rattle.paths_rules.specs.Path as R;
 ghost use Rattle.path.specs.Reading.{path_of, path_view};
@@ -20,7 +20,7 @@ pub struct Answer {
 }
 
 // The matches are looked for once.
-pub fn answered(x: FormedPath, data: u64, now: Moment, multi: bool) -> Answer
+fn response(x: FormedPath, data: u64, now: Moment, multi: bool) -> Answer
     ensures { result ≡ record { path = path_of (R.respond «data» multi (path_view x.entry.path.now)); spans = spans_of (R.matched «data» now.us (path_view x.entry.path.now)); yes = R.validates «data» (path_view x.entry.path.now) } }
 {
     if tests::is_validated(x.path) {
@@ -54,4 +54,18 @@ pub fn answered(x: FormedPath, data: u64, now: Moment, multi: bool) -> Answer
         path.need_send_challenge = true;
     }
     Answer { path, spans, yes }
+}
+
+// The same of a path that has its form; any other stays as it is.
+pub fn answered(x: Result<FormedPath<'_>, &Path>, data: u64, now: Moment, multi: bool) -> Answer
+    ensures { MatchResult x.entry (λ f. result ≡ record { path = path_of (R.respond «data» multi (path_view f.path.now)); spans = spans_of (R.matched «data» now.us (path_view f.path.now)); yes = R.validates «data» (path_view f.path.now) }) (λ p. result ≡ record { path = p.now; spans = spans_of []; yes = false }) }
+{
+    match x {
+        Ok(formed) => response(formed, data, now, multi),
+        Err(other) => Answer {
+            path: *other,
+            spans: challenges::no_spans(),
+            yes: false,
+        },
+    }
 }

@@ -37,13 +37,15 @@ pub fn sending(x: FormedPath, now: Moment) -> Result<Moment, Refusal>
     Ok(deadline)
 }
 
-// It goes to the end.
-#[tactic(auto, using(crate::specs::ChalLaws::sent_held, crate::specs::SendLaws::send_room))]
-pub fn sent(x: FormedPath, data: u64, size: u64, now: Moment, deadline: Moment) -> Path
+// It goes to the end. One that is refused has no deadline: the path stays.
+#[tactic(auto, using(crate::specs::ChalLaws::sent_held, crate::specs::SendLaws::send_lost, crate::specs::SendLaws::send_room))]
+pub fn sent(x: FormedPath, data: u64, size: u64, now: Moment) -> Path
     requires unrefused { refusal now.us (path_view x.path.now) ≡ 0 }
-    requires lost_at { deadline ≡ record { us = loss_time now.us x.path.now.lost_chal } }
     ensures { result ≡ path_of (send «data» size now.us (path_view x.entry.path.now)) }
 {
+    let Some(deadline) = values::moment_plus(now, back_off(x.path.lost_chal)) else {
+        return *x.path;
+    };
     let challenge = Challenge {
         data,
         size,

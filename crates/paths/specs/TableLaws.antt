@@ -26,7 +26,7 @@ use Rattle.path.specs.ReadingLaws.{path_is}
 use Rattle.path.specs.Puts.{put_listed}
 use Rattle.path.specs.FieldLaws.{back, unlisted_is}
 use Rattle.paths.specs.Reading.{view, put_paths, paths_of}
-use Rattle.paths.specs.Lists.{first_map, first_position}
+use Rattle.paths.specs.Lists.{first_map, first_position, free_place}
 use Rattle.paths.specs.ReadingLaws.{Tidy, live_long, items_long, paths_long, put_is, formed_at, path_at_lem, stored_is, stored_of, pushed_of}
 use Rattle.paths_state.specs.declared.state.Path as S
 use Rattle.paths_state.specs.Formed as F
@@ -175,6 +175,13 @@ module _ (t : Paths) (w : Tidy t) (d : S.Path) (i : ℕ) (u : Paths) (h : i < t.
       (ap₂ (λ (c g : Bool). put_listed (c && g) at) e f
       ∙ ap (λ (c : Bool). put_listed c at) (twice at.listed (not (same_pair at.pair a)) (not (same_pair at.pair b)))
       ∙ ap (put_listed (at.listed && not (same_pair at.pair a) && not (same_pair at.pair b))) (back at (each_formed t w (unlist_both a b) d i u h q)))
+
+-- the place after the paths is free, whatever was done to each of them
+pub free_at : (t : Paths) → Tidy t → (f : Path → Path) (u : Paths) → u ≡ paths_of (on_all f (view t)) → t.count < max_paths_limit → (d : S.Path) → get_or u.items t.count d ≡ F.zero_path
+free_at t w f u e h d =
+    let l = map path_of (map f (view t).paths) in
+    let n : length l ≡ t.count = length-map (map f (view t).paths) path_of ∙ length-map (view t).paths f ∙ paths_long t w in
+    ap (λ (v : Paths). get_or v.items t.count d) e ∙ ap (λ (k : ℕ). get_or (padded max_paths_limit F.zero_path l) k d) (sym n) ∙ free_place max_paths_limit F.zero_path d l (omega (arith, n, h))
 
 module _ (t : Paths) (w : Tidy t) (u : Paths) (a : FourTuple) (m : ℕ) (x : S.Path) (q : x ≡ path_of (new_path_of a m)) where
   pub appended_is : t.count < max_paths_limit → u ≡ paths_of (on_all (unlist a) (view t)) → put_paths (set u.items t.count x) (t.count + 1) u ≡ paths_of (appended a m (view t))

@@ -26,6 +26,10 @@ none_is : (o : Option ℕ) → None ≡ optional o → o ≡ none
 none_is none e = refl
 none_is (some j) e = let z : ◌≡◌ {A = ℕ} 0 1 = cc in absurd (omega arith)
 
+-- what was tested chooses
+pub tested : {A : Type 0} (x y : A) (ok v : Bool) → ok ≡ v → cond v x y ≡ cond ok x y
+tested x y ok v e = sym (ap (λ (b : Bool). cond b x y) e)
+
 abbrev found_answer : ℕ → S.Path → FoundAnswer
 found_answer i x = record { refusal = 0; id = i; path = x }
 

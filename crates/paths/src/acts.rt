@@ -198,8 +198,8 @@ fn sending(t: &Paths, id: u64, now: Moment) -> Result<(FormedPath<'_>, Moment), 
 pub fn on_path_chal_sent_at(t: Paths, id: u64, data: u64, size: u64, sent: Moment) -> PathParts
     ensures { Puts t result.path result.place result.answer (done_call t (moment_formed_of sent.us) (C.On id (C.Send «data» size sent.us))) }
 {
-    left(&t, id, sending(&t, id, sent), |(x, deadline)| {
-        path::sent(x, data, size, sent, deadline)
+    left(&t, id, sending(&t, id, sent), |(x, _)| {
+        path::sent(x, data, size, sent)
     })
 }
 
@@ -210,7 +210,7 @@ pub fn on_path_resp_received_at(t: Paths, id: u64, data: u64, now: Moment) -> Re
 {
     match found_if(values::moment_formed(now), &t, id) {
         Ok(x) => {
-            let a = path::answered(x, data, now, t.is_multipath);
+            let a = path::answered(Ok(x), data, now, t.is_multipath);
             RespondedParts {
                 path: a.path,
                 place: id as usize,

@@ -1,14 +1,18 @@
 -- What the tests gather, and what a well-formed state has.
-use Rattle.std.specs.Prelude.{ℕ, zero, suc, ◌-◌, ◌≤◌, ◌<◌, ◌≡◌, refl, List, [], ◌∷◌, Bool, true, false, not, ◌&&◌, ◌||◌, eqb, leb, length, take, drop, get_or, replicate}
+use Rattle.std.specs.Prelude.{ℕ, zero, suc, ◌+◌, ◌-◌, ◌≤◌, ◌<◌, ◌≡◌, refl, List, [], ◌∷◌, Bool, true, false, not, ◌&&◌, ◌||◌, eqb, leb, length, take, drop, get_or, replicate}
 use Rattle.std.specs.List.{list_all}
-use Rattle.std.proofs.Common.{not-suc-le-zero, le_of_suc-le-suc, get_or-take, sym, ap, ap₂, ◌∙◌, arith, drop_at, eq-eqb, eqb-true, le-leb, leb-true}
-use Rattle.std.proofs.lemmas.Bool.{not-true}
+use Rattle.std.proofs.Common.{not-suc-le-zero, le_of_suc-le-suc, get_or-take, sym, ap, ap₂, ◌∙◌, arith, drop_at, eq-eqb, eqb-true, le-leb, leb-false, leb-true}
+use Rattle.std.proofs.Math.Bool.{and_assoc, and-false}
+use Rattle.std.specs.Int.Bits.{bit_and, bit_or, or_add_and}
+use Rattle.std.proofs.lemmas.Nat.{and_le_l, and_le_r, or_lt}
+use Rattle.std.proofs.lemmas.Bool.{lt-leb, not-true}
 use Rattle.lists.specs.Defs.{all, nought, pairwise, past}
 use Rattle.lists.specs.Bools.{and_both, conj_each}
 use Rattle.lists.specs.Held.{Held, get_or_in, held_count, held_length}
 use Rattle.lists.specs.Tests.{nought_is, past_is}
-use Rattle.values.specs.Limits.{ip_len, max_lost, max_path_chals_recv, max_path_chals_sent, max_paths_limit}
+use Rattle.values.specs.Limits.{ip_len, max_lost, max_moment, max_path_chals_recv, max_path_chals_sent, max_paths_limit}
 use Rattle.values.specs.Address.{pair_formed_of, zero_address}
+use Rattle.values.specs.Time.{moment_formed_of}
 use Rattle.values.specs.declared.address.Address.{Address}
 use Rattle.challenges.specs.Challenges.{ReceivedWell, SentWell, is_zero as no_challenge, standing, zero_challenge}
 use Rattle.challenges.specs.declared.received.Received.{Received}
@@ -40,6 +44,43 @@ challenge_is c e =
     let sent = nought_is c.sent.us w.1.1.0 in
     let deadline = nought_is c.deadline.us w.1.1.1.0 in
     λ i. record { «data» = d i; size = size i; sent = record { us = sent i }; deadline = record { us = deadline i } }
+
+-- what is zero has moments of their form
+zero_timed : (c : Challenge) → no_challenge c ≡ true → timed c ≡ true
+zero_timed c e = ap timed (challenge_is c e)
+
+zeros_timed : (l : List Challenge) → all no_challenge l ≡ true → all timed l ≡ true
+zeros_timed [] e = refl
+zeros_timed (c ∷ cs) e =
+    let w = and_both (no_challenge c) (all no_challenge cs) e in
+    ap₂ ◌&&◌ (zero_timed c w.0) (zeros_timed cs w.1)
+
+-- so all places may be tested for those that stand
+pub all_timed : (l : List Challenge) (n : ℕ) → (all timed l && all no_challenge (drop n l)) ≡ (all timed (take n l) && all no_challenge (drop n l))
+all_timed l zero = go (all no_challenge l) refl
+  where
+    go : (b : Bool) → all no_challenge l ≡ b → (all timed l && all no_challenge l) ≡ all no_challenge l
+    go true t = ap (λ (b : Bool). b && all no_challenge l) (zeros_timed l t)
+    go false t = ap (λ (b : Bool). all timed l && b) t ∙ and-false (all timed l) ∙ sym t
+all_timed [] (suc n) = refl
+all_timed (c ∷ cs) (suc n) =
+    and_assoc (timed c) (all timed cs) (all no_challenge (drop n cs))
+    ∙ ap (λ (b : Bool). timed c && b) (all_timed cs n)
+    ∙ sym (and_assoc (timed c) (all timed (take n cs)) (all no_challenge (drop n cs)))
+
+-- both moments have their form exactly if their or has
+or_low : (a b : ℕ) → moment_formed_of (bit_or a b) ≡ (moment_formed_of a && moment_formed_of b)
+or_low a b = go (moment_formed_of a) (moment_formed_of b) refl refl
+  where
+    s : bit_or a b + bit_and a b ≡ a + b
+    s = or_add_and a b
+
+    go : (x y : Bool) → moment_formed_of a ≡ x → moment_formed_of b ≡ y → moment_formed_of (bit_or a b) ≡ (moment_formed_of a && moment_formed_of b)
+    go true true p q =
+        let h = or_lt 63 a b (omega (arith, leb-true a max_moment p)) (omega (arith, leb-true b max_moment q)) in
+        le-leb (bit_or a b) max_moment (omega (arith, h)) ∙ sym (ap₂ ◌&&◌ p q)
+    go false y p q = lt-leb (bit_or a b) max_moment (omega (arith, s, and_le_r a b, leb-false a max_moment p)) ∙ sym (ap (λ (t : Bool). t && moment_formed_of b) p)
+    go true false p q = lt-leb (bit_or a b) max_moment (omega (arith, s, and_le_l a b, leb-false b max_moment q)) ∙ sym (ap₂ ◌&&◌ p q)
 
 zeros_is : (n : ℕ) (l : List ℕ) → past nought n 0 l ≡ true → l ≡ replicate n 0
 zeros_is n l e = let q : n - 0 ≡ n = omega arith in past_is nought 0 nought_is n 0 l (omega arith) e ∙ ap (λ (m : ℕ). replicate m 0) q

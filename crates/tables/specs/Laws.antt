@@ -32,6 +32,16 @@ module _ (q : Queue) (w : QueueWell q) where
   pub queue_push_is : (x : ℕ) → q.count < queue_slots → ◌≡◌ {A = Queue} (record { items = set q.items q.count x; count = q.count + 1 }) (queue_of (entries q ++ (x ∷ [])))
   queue_push_is x h = λ i. record { items = held_push w x h i; count = held_more w x i }
 
+pub entries_at : (l : List ℕ) (q : Queue) → q ≡ queue_of l → entries q ≡ l
+entries_at l q e = ap entries e ∙ take_padded queue_slots 0 l
+
+pub queue_at_lem : (l : List ℕ) (q : Queue) → q ≡ queue_of l → length l ≤ queue_slots → QueueWell q
+queue_at_lem l q e h = rw e (held_of queue_slots 0 l h)
+
+-- a queue that is known by its list k, after a push
+pub push_onto : (k m : List ℕ) (v : ℕ) (out r : Queue) → out ≡ queue_of k → r ≡ queue_of (entries out ++ (v ∷ [])) → m ≡ k ++ (v ∷ []) → r ≡ queue_of m
+push_onto k m v out r e q g = q ∙ ap (λ (x : List ℕ). queue_of (x ++ (v ∷ []))) (entries_at k out e) ∙ ap queue_of (sym g)
+
 -- ---- tables
 
 module _ (t : Table) (w : TableWell t) where
@@ -58,6 +68,9 @@ module _ (k : List Item) (out : Table) (e : out ≡ table_of k) where
 
   pub live_of : live out ≡ k
   live_of = ap live e ∙ take_padded table_slots zero_item k
+
+  pub append_onto : (m : List Item) (x : Item) (r : Table) → r ≡ table_of (live out ++ (x ∷ [])) → m ≡ k ++ (x ∷ []) → r ≡ table_of m
+  append_onto m x r q g = q ∙ ap (λ (l : List Item). table_of (l ++ (x ∷ []))) live_of ∙ ap table_of (sym g)
 
   pub room_at : length k < table_slots → TableWell out × (out.count < table_slots)
   room_at h = (table_at (omega arith), omega (arith, ap (λ (t : Table). t.count) e))
@@ -156,34 +169,27 @@ lower b x = ap (λ (t : Bool). t && x.has_path) (go (leb b x.seq) refl)
     go true e = sym (le-ltb x.seq b (leb-true b x.seq e))
     go false e = sym (lt-ltb x.seq b (omega (arith, leb-false b x.seq e)))
 
+-- ---- a list of pairs that is known by its list k, after one more is stored
+
+module _ (k : List UsedSeq) (out : Used) (e : out ≡ used_of k) where
+  pub used_onto : (m : List UsedSeq) (x : UsedSeq) (n : ℕ) → n ≡ out.count → length k < table_slots → m ≡ k ++ (x ∷ []) → ◌≡◌ {A = Used} (record { pairs = set out.pairs n x; count = n + 1 }) (used_of m)
+  used_onto m x n q h g = λ i. record { pairs = pairs i; count = count i }
+    where
+      at : n ≡ length k
+      at = q ∙ ap (λ (u : Used). u.count) e
+
+      pairs : set out.pairs n x ≡ padded table_slots zero_pair m
+      pairs = ap₂ (λ (l : List UsedSeq) (j : ℕ). set l j x) (ap (λ (u : Used). u.pairs) e) at ∙ padded_push table_slots zero_pair k x h ∙ ap (padded table_slots zero_pair) (sym g)
+
+      count : n + 1 ≡ length m
+      count = omega (arith, at, ap (length {A = UsedSeq}) g, length-append k (x ∷ []))
+
 module _ (b : ℕ) (l : List Item) (i : ℕ) (d : Item) (out : Used) (e : out ≡ used_of (picked pair_of (low_on_path b) (take i l))) (h : i < length l) where
   pub used_yes : length l ≤ table_slots → (ltb (get_or l i d).seq b && (get_or l i d).has_path) ≡ true
       → ◌≡◌ {A = Used} (record { pairs = set out.pairs out.count (pair_of (get_or l i d)); count = out.count + 1 }) (used_of (picked pair_of (low_on_path b) (take (i + 1) l)))
-  used_yes few t = λ j. record { pairs = pairs j; count = count j }
-    where
-      k : List UsedSeq
-      k = picked pair_of (low_on_path b) (take i l)
-
-      m : List UsedSeq
-      m = picked pair_of (low_on_path b) (take (i + 1) l)
-
-      x : UsedSeq
-      x = pair_of (get_or l i d)
-
-      more : m ≡ k ++ (x ∷ [])
-      more = picked_yes pair_of (low_on_path b) d l i h (lower b (get_or l i d) ∙ t)
-
-      at : out.count ≡ length k
-      at = ap (λ (u : Used). u.count) e
-
-      pairs : set out.pairs out.count x ≡ padded table_slots zero_pair m
-      pairs =
-          ap₂ (λ (r : List UsedSeq) (j : ℕ). set r j x) (ap (λ (u : Used). u.pairs) e) at
-          ∙ padded_push table_slots zero_pair k x (omega (arith, picked_few pair_of (low_on_path b) i l))
-          ∙ ap (padded table_slots zero_pair) (sym more)
-
-      count : out.count + 1 ≡ length m
-      count = omega (arith, at, ap (length {A = UsedSeq}) more, length-append k (x ∷ []))
+  used_yes few t =
+      used_onto (picked pair_of (low_on_path b) (take i l)) out e (picked pair_of (low_on_path b) (take (i + 1) l)) (pair_of (get_or l i d)) out.count refl
+      (omega (arith, picked_few pair_of (low_on_path b) i l)) (picked_yes pair_of (low_on_path b) d l i h (lower b (get_or l i d) ∙ t))
 
   pub used_no : (ltb (get_or l i d).seq b && (get_or l i d).has_path) ≡ false → out ≡ used_of (picked pair_of (low_on_path b) (take (i + 1) l))
   used_no t = e ∙ ap used_of (sym (picked_no pair_of (low_on_path b) d l i h (lower b (get_or l i d) ∙ t)))
@@ -202,7 +208,7 @@ marks false false false false = refl
 step : (x y u v : Bool) {p q : Bool} → p ≡ (x && y) → q ≡ (u && v) → (p && q) ≡ ((x && u) && (y && v))
 step x y u v e f = ap₂ ◌&&◌ e f ∙ middle x y u v
 
-seven : (a1 a2 a3 a4 a5 b1 b2 b3 b4 b5 at ah bt bh : Bool) {r1 r2 r3 r4 r5 t h : Bool}
+pub seven : (a1 a2 a3 a4 a5 b1 b2 b3 b4 b5 at ah bt bh : Bool) {r1 r2 r3 r4 r5 t h : Bool}
     → r1 ≡ (a1 && b1) → r2 ≡ (a2 && b2) → r3 ≡ (a3 && b3) → r4 ≡ (a4 && b4) → r5 ≡ (a5 && b5) → t ≡ false → h ≡ (ah || at || bh || bt)
     → (r1 && r2 && r3 && r4 && r5 && not t && not h) ≡ ((a1 && a2 && a3 && a4 && a5 && not at && not ah) && (b1 && b2 && b3 && b4 && b5 && not bt && not bh))
 seven a1 a2 a3 a4 a5 b1 b2 b3 b4 b5 at ah bt bh e1 e2 e3 e4 e5 et eh =

@@ -27,7 +27,7 @@ pub fn no_pairs() -> Used
 }
 
 // The sequences below the bound go to the end of the queue, in table order: there is room.
-#[tactic(auto, using(lists::specs::Search::keep_room, std::proofs::lemmas::Grind::common_steps))]
+#[tactic(auto, using(lists::specs::Search::keep_room_whole, std::proofs::lemmas::Grind::common_steps))]
 pub fn queue_lower(items: &[Item], bound: u64, q: Queue) -> Queue
     requires { QueueWell q × (q.count + length (keep (below bound) items.now) ≤ queue_slots) }
     ensures { result ≡ queue_of (entries q ++ picked seq_of (below bound) items.now) }

@@ -1,14 +1,14 @@
 // The published calls, in the order of the Rust's TimerTable, and `clear`. Each tests the table and its arguments first: what is not of its form is refused
-// with 1, and then nothing is changed. Beside each stands what it does as a Result.
+// with 1, and then nothing is changed. Beside each stands what it does as a Result, in place where it changes the table.
 // C gives a timer by its number.
 ghost use Rattle.std.specs.Prelude.{◌≡◌};
-ghost use Rattle.values.specs.Results.{flagged_of, timed_of};
-ghost use Rattle.timers.specs.Calls.{clear_call, fresh_call, get_call, is_expired_call, next_timeout_call, out_of, set_call, stop_call};
+ghost use Rattle.values.specs.Results.{done_of, flagged_of, timed_of};
+ghost use Rattle.timers.specs.Calls.{clear_call, fresh_call, get_call, is_expired_call, next_timeout_call, set_call, stop_call};
 
 use crate::table::{Timer, TimerTable, TimersOut};
 use crate::{steps, tested};
 use values::limits::TIMER_SLOTS;
-use values::{Deadline, Flagged, Moment, Refusal, Timed};
+use values::{Deadline, Done, Flagged, Moment, Refusal, Timed};
 
 // A table with no timer set.
 pub fn fresh() -> TimerTable
@@ -19,19 +19,22 @@ pub fn fresh() -> TimerTable
     }
 }
 
-fn try_set(t: &TimerTable, timer: u64, at: Moment) -> Result<TimerTable, Refusal>
-    ensures { out_of t.now result ≡ set_call t.now timer at }
+fn try_set(t: &mut TimerTable, timer: u64, at: Moment) -> Result<(), Refusal>
+    ensures { record { timers = t.new; answer = done_of result } ≡ set_call t.old timer at }
 {
-    let f = tested::checked(t)?;
+    tested::checked(t)?;
     values::form(values::moment_formed(at))?;
-    Ok(steps::set_step(f, Timer::try_from(timer)?, at))
+    steps::set_step(t, Timer::try_from(timer)?, at);
+    Ok(())
 }
 
 // Sets the timer's deadline.
 pub fn set(t: TimerTable, timer: u64, at: Moment) -> TimersOut
     ensures { result ≡ set_call t timer at }
 {
-    TimersOut::of(t, try_set(&t, timer, at))
+    let mut timers = t;
+    let answer = Done::from(try_set(&mut timers, timer, at));
+    TimersOut { timers, answer }
 }
 
 fn try_get(t: &TimerTable, timer: u64) -> Result<Option<Moment>, Refusal>
@@ -47,17 +50,21 @@ pub fn get(t: TimerTable, timer: u64) -> Timed
     Timed::from(try_get(&t, timer))
 }
 
-fn try_stop(t: &TimerTable, timer: u64) -> Result<TimerTable, Refusal>
-    ensures { out_of t.now result ≡ stop_call t.now timer }
+fn try_stop(t: &mut TimerTable, timer: u64) -> Result<(), Refusal>
+    ensures { record { timers = t.new; answer = done_of result } ≡ stop_call t.old timer }
 {
-    Ok(steps::stop_step(tested::checked(t)?, Timer::try_from(timer)?))
+    tested::checked(t)?;
+    steps::stop_step(t, Timer::try_from(timer)?);
+    Ok(())
 }
 
 // The timer isn't set any more.
 pub fn stop(t: TimerTable, timer: u64) -> TimersOut
     ensures { result ≡ stop_call t timer }
 {
-    TimersOut::of(t, try_stop(&t, timer))
+    let mut timers = t;
+    let answer = Done::from(try_stop(&mut timers, timer));
+    TimersOut { timers, answer }
 }
 
 fn try_next_timeout(t: &TimerTable) -> Result<Option<Moment>, Refusal>
@@ -88,16 +95,19 @@ pub fn is_expired(t: TimerTable, timer: u64, now: Moment) -> Flagged
     Flagged::from(try_is_expired(&t, timer, now))
 }
 
-fn try_clear(t: &TimerTable) -> Result<TimerTable, Refusal>
-    ensures { out_of t.now result ≡ clear_call t.now }
+fn try_clear(t: &mut TimerTable) -> Result<(), Refusal>
+    ensures { record { timers = t.new; answer = done_of result } ≡ clear_call t.old }
 {
     tested::checked(t)?;
-    Ok(fresh())
+    *t = fresh();
+    Ok(())
 }
 
 // Every timer is stopped: the table is as a fresh one. Not in the Rust, whose table is dropped with its connection; for a table that is lent in place.
 pub fn clear(t: TimerTable) -> TimersOut
     ensures { result ≡ clear_call t }
 {
-    TimersOut::of(t, try_clear(&t))
+    let mut timers = t;
+    let answer = Done::from(try_clear(&mut timers));
+    TimersOut { timers, answer }
 }

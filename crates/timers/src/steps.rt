@@ -1,6 +1,6 @@
-// What the calls do to a table that is well formed, once the arguments have their forms.
-ghost use Rattle.std.specs.Prelude.{◌≡◌};
-ghost use Rattle.timers.specs.Timers.{expired, get_timer, next_timeout, set_timer, stop_timer, timers_of, view};
+// What the calls do to a table that is well formed, once the arguments have their forms: in place, where they change it.
+ghost use Rattle.std.specs.Prelude.{◌≡◌, true};
+ghost use Rattle.timers.specs.Timers.{expired, get_timer, next_timeout, set_timer, stop_timer, timers_of, view, well_formed};
 ghost use Rattle.timers.specs.Names.{number_of};
 ghost use Rattle.values.specs.Time.{moved_of};
 
@@ -8,20 +8,18 @@ use crate::table::{Timer, TimerTable};
 use crate::tested::FormedTimers;
 use values::{Deadline, Moment};
 
-pub fn set_step(t: FormedTimers<'_>, timer: Timer, at: Moment) -> TimerTable
-    ensures { result ≡ timers_of (set_timer (number_of timer) at.us (view t.entry.table.now)) }
+pub fn set_step(t: &mut TimerTable, timer: Timer, at: Moment)
+    requires { well_formed t.old ≡ true }
+    ensures { t.new ≡ timers_of (set_timer (number_of timer) at.us (view t.old)) }
 {
-    let mut u = *t.table;
-    u.expires[timer as usize] = Deadline::from(Some(at));
-    u
+    t.expires[timer as usize] = Deadline::from(Some(at));
 }
 
-pub fn stop_step(t: FormedTimers<'_>, timer: Timer) -> TimerTable
-    ensures { result ≡ timers_of (stop_timer (number_of timer) (view t.entry.table.now)) }
+pub fn stop_step(t: &mut TimerTable, timer: Timer)
+    requires { well_formed t.old ≡ true }
+    ensures { t.new ≡ timers_of (stop_timer (number_of timer) (view t.old)) }
 {
-    let mut u = *t.table;
-    u.expires[timer as usize] = Deadline::from(None);
-    u
+    t.expires[timer as usize] = Deadline::from(None);
 }
 
 pub fn get_step(t: FormedTimers<'_>, timer: Timer) -> Option<Moment>

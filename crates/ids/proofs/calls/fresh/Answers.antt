@@ -21,13 +21,13 @@ module _ (t i a : Bool) (k x : Bool) (et : k ≡ t) (ex : x ≡ i) where
 pub first_state-requires : goal.first_state-requires
 first_state-requires c =
     let a = leb 1 c.args.dcid_limit && leb c.args.dcid_limit max_dcid_limit in
-    (and_both _ _ (sym (same_test (token_formed_of c.args.token) (id_formed c.args.cid) a c.token_formed.result c.cid_formed.result c.token_formed.ensures c.cid_formed.ensures) ∙ form_accepts _ _ (sym c.form.ensures ∙ c.in-Ok.is))).0
+    (and_both _ _ (sym (same_test (token_formed_of c.args.token) (id_formed c.args.cid) a c.token_formed.result c.cid_formed.result c.token_formed.ensures c.cid_formed.ensures) ∙ form_accepts _ _ (sym c.form.ensures ∙ c.in_default.is))).0
 
-pub returns-in-Ok : goal.returns-in-Ok
-returns-in-Ok c =
+pub returns : goal.returns
+returns c =
     let a = leb 1 c.args.dcid_limit && leb c.args.dcid_limit max_dcid_limit in
-    let e = sym (same_test (token_formed_of c.args.token) (id_formed c.args.cid) a c.token_formed.result c.cid_formed.result c.token_formed.ensures c.cid_formed.ensures) ∙ form_accepts _ _ (sym c.form.ensures ∙ c.in-Ok.is) in
-    ap {B = DoneOut} (λ (d : Done). record { ids = c.first_state.result; answer = d }) c.from.ensures
+    let e = sym (same_test (token_formed_of c.args.token) (id_formed c.args.cid) a c.token_formed.result c.cid_formed.result c.token_formed.ensures c.cid_formed.ensures) ∙ form_accepts _ _ (sym c.form.ensures ∙ c.in_default.is) in
+    ap {B = DoneOut} (λ (d : Done). record { ids = c.first_state.result; answer = d }) c.from-2.ensures
     ∙ fresh_0 c.args.dcid_limit c.args.cid c.args.path c.args.token e _ c.first_state.ensures
 
 pub returns-in-Err : goal.returns-in-Err
@@ -35,6 +35,6 @@ returns-in-Err c =
     let a = leb 1 c.args.dcid_limit && leb c.args.dcid_limit max_dcid_limit in
     let w = form_refuses _ _ (sym c.form.ensures ∙ c.in-Err.is) in
     let e = sym (same_test (token_formed_of c.args.token) (id_formed c.args.cid) a c.token_formed.result c.cid_formed.result c.token_formed.ensures c.cid_formed.ensures) ∙ w.0 in
-    ap {B = DoneOut} (λ (d : Done). record { ids = c.zero_state.result; answer = d }) c.from-in-Err.ensures
+    ap {B = DoneOut} (λ (d : Done). record { ids = c.zero_state.result; answer = d }) c.from.ensures
     ∙ ap {B = DoneOut} (λ (r : Refusal). record { ids = c.zero_state.result; answer = record { refusal = number r } }) w.1
     ∙ fresh_1 c.args.dcid_limit c.args.cid c.args.path c.args.token e _ c.zero_state.ensures

@@ -4,4 +4,4 @@ use Rattle.timers.proofs.Laws.{store}
 use Rattle.timers.proofs.steps.stop_step.Goals as goal
 
 pub returns : goal.returns
-returns c = let s = store c.args.t.table.now c.args.t.well in search rules
+returns c = let s = store c.args.t.now c.requires in search rules

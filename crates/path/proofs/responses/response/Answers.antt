@@ -4,7 +4,7 @@ use Rattle.std.proofs.Common.{arith, ap, sym, ◌∙◌, le-leb}
 use Rattle.std.proofs.lemmas.Bool.{lt-leb}
 use Rattle.path.specs.ChalLaws.{sent_held, validated_deaf, found_deaf, found_none, found_heeded, largest_is, respond_none, respond_big, respond_small, matched_none, matched_is, validates_none, validates_is}
 use Rattle.values.specs.Limits.{min_client_initial_len}
-use Rattle.path.proofs.responses.answered.Goals as goal
+use Rattle.path.proofs.responses.response.Goals as goal
 
 pub returns-then-is_validated : goal.returns-then-is_validated
 returns-then-is_validated c =
