@@ -1,5 +1,6 @@
 // The published calls, in the order of the Rust's TimerTable, and `clear`. Each tests the table and its arguments first: what is not of its form is refused
-// with 1, and then nothing is changed. Beside each stands what it does as a Result, in place where it changes the table.
+// with 1, and then nothing is changed. Beside each but the first and the last stands what it does as a Result, in place where
+// it changes the table.
 // C gives a timer by its number.
 ghost use Rattle.std.specs.Prelude.{◌≡◌};
 ghost use Rattle.values.specs.Results.{done_of, flagged_of, timed_of};
@@ -95,19 +96,18 @@ pub fn is_expired(t: TimerTable, timer: u64, now: Moment) -> Flagged
     Flagged::from(try_is_expired(&t, timer, now))
 }
 
-fn try_clear(t: &mut TimerTable) -> Result<(), Refusal>
-    ensures { record { timers = t.new; answer = done_of result } ≡ clear_call t.old }
-{
-    tested::checked(t)?;
-    *t = fresh();
-    Ok(())
-}
-
 // Every timer is stopped: the table is as a fresh one. Not in the Rust, whose table is dropped with its connection; for a table that is lent in place.
 pub fn clear(t: TimerTable) -> TimersOut
     ensures { result ≡ clear_call t }
 {
-    let mut timers = t;
-    let answer = Done::from(try_clear(&mut timers));
-    TimersOut { timers, answer }
+    if let Err(refusal) = tested::checked(&t) {
+        return TimersOut {
+            timers: t,
+            answer: Done::from(Err(refusal)),
+        };
+    }
+    TimersOut {
+        timers: fresh(),
+        answer: Done::from(Ok(())),
+    }
 }
