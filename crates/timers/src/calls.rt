@@ -74,6 +74,13 @@ fn try_next_timeout(t: &TimerTable) -> Result<Option<Moment>, Refusal>
     Ok(steps::next_step(tested::checked(t)?))
 }
 
+// The least deadline that is set, of a table that is lent: it is read where it stands.
+pub fn next_timeout_of(t: &TimerTable) -> Timed
+    ensures { result ≡ next_timeout_call t.now }
+{
+    Timed::from(try_next_timeout(t))
+}
+
 // The least deadline that is set.
 pub fn next_timeout(t: TimerTable) -> Timed
     ensures { result ≡ next_timeout_call t }

@@ -7,5 +7,5 @@ mod steps;
 mod table;
 mod tested;
 
-pub use calls::{clear, fresh, get, is_expired, next_timeout, set, stop};
+pub use calls::{clear, fresh, get, is_expired, next_timeout, next_timeout_of, set, stop};
 pub use table::{Timer, TimerTable, TimersOut};

@@ -38,5 +38,5 @@ pub fn clear(t: &mut TimerTable) -> Done
 pub fn next_timeout(t: &TimerTable) -> Timed
     ensures { result ≡ next_timeout_call t.now }
 {
-    timers::next_timeout(*t)
+    timers::next_timeout_of(t)
 }
